@@ -1,0 +1,31 @@
+-- 01, "What the answers mean": the number of each refusal, and verdicts that are reached in an order.
+use Prim.Native.Nat.{ℕ}
+use mathlib.Core.Bool.{Bool, true, false}
+use Rattle.refusal.specs.declared.Refusal.{Refusal}
+use Rattle.refusal.specs.declared.Refusal.the-variants.{BodyShort, BodyLong, HeldBroken, CheckWrong, AddressIllegal, CodeUnknown, LengthWrong, FieldOutside, RoomShort, LogLeftOver, RecordBroken}
+use Rattle.refusal.specs.declared.Verdict.{Verdict}
+use Rattle.refusal.specs.declared.Verdict.the-variants.{Good, Refused}
+
+-- the column "No." of the table
+abbrev pub numberOf : Refusal → ℕ
+numberOf BodyShort = 1
+numberOf BodyLong = 2
+numberOf HeldBroken = 3
+numberOf CheckWrong = 4
+numberOf AddressIllegal = 5
+numberOf CodeUnknown = 6
+numberOf LengthWrong = 7
+numberOf FieldOutside = 8
+numberOf RoomShort = 9
+numberOf LogLeftOver = 10
+numberOf RecordBroken = 11
+
+-- the number of a verdict: 0 where nothing is refused
+abbrev pub verdictNumber : Verdict → ℕ
+verdictNumber Good = 0
+verdictNumber (Refused why) = numberOf why
+
+-- "the order is 1, 4, 5": a chain of tests, of which the first that holds refuses
+abbrev pub refuseIf : Bool → Refusal → Verdict → Verdict
+refuseIf true why after = Refused why
+refuseIf false why after = after

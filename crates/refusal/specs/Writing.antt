@@ -1,0 +1,24 @@
+-- 01, "What the answers mean": "A refused write answers length 0 beside its number and leaves every lent byte as it stood; an accepted
+-- one changes only its own length of bytes." Said here once, for frames, messages and log records.
+use Prim.Native.Nat.{ℕ}
+use mathlib.Core.Path.{_≡_}
+use mathlib.Core.List.{List, _++_}
+use lib.ListN.{length, drop}
+use Rattle.refusal.specs.declared.Verdict.{Verdict}
+use Rattle.refusal.specs.declared.Verdict.the-variants.{Good, Refused}
+use Rattle.refusal.specs.declared.Written.{Written}
+
+-- the answer of a write, and what it leaves in the lent room
+pub record Left : Type 0 where
+  pub answer : Written
+  pub room : List ℕ
+
+-- the write of some bytes into a room, under a verdict
+abbrev pub wrote : Verdict → List ℕ → List ℕ → Left
+wrote Good bytes room = record { answer = record { verdict = Good; length = length bytes }; room = bytes ++ drop (length bytes) room }
+wrote (Refused why) bytes room = record { answer = record { verdict = Refused why; length = 0 }; room = room }
+
+-- a promise: the answer and the room are those of a write, and no others
+pub record Leaves (write : Left) (answered : Written) (left : List ℕ) : Type 0 where
+  pub answer : answered ≡ write .answer
+  pub room : left ≡ write .room

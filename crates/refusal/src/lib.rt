@@ -1,0 +1,50 @@
+// The numbered refusals of the rules paper ("What the answers mean"), and the two answers that every
+// layer above is made of: a verdict, and what a write answers.
+ghost use mathlib.Core.Path.{_≡_};
+ghost use Rattle.refusal.specs.Numbers.{numberOf};
+
+// One case for each number of the paper's list, named by its meaning.
+pub enum Refusal {
+    BodyShort, // 1: body ended with under 3 bytes, or first byte 00 and under 6
+    BodyLong, // 2: 256th body byte; body would pass 255
+    HeldBroken, // 3: Held, then neither FE nor FF
+    CheckWrong, // 4: check not 0
+    AddressIllegal, // 5: address outside its range
+    CodeUnknown, // 6: code not in the table for that role
+    LengthWrong, // 7: data length wrong for the code
+    FieldOutside, // 8: a field outside its values
+    RoomShort, // 9: lent room shorter than needed
+    LogLeftOver, // 10: log bytes left over, 1 to 19
+    RecordBroken, // 11: log record breaks a rule
+}
+
+// What a judge says of what it was given.
+pub enum Verdict {
+    Good,
+    Refused(Refusal),
+}
+
+// What a write answers: its own length, or length 0 beside the refusal.
+pub struct Written {
+    pub verdict: Verdict,
+    pub length: usize,
+}
+
+// The paper's number of a refusal.
+pub fn number(refusal: Refusal) -> u8
+    ensures { λ r. ⌜ r ≡ numberOf refusal ⌝ }
+{
+    match refusal {
+        Refusal::BodyShort => 1,
+        Refusal::BodyLong => 2,
+        Refusal::HeldBroken => 3,
+        Refusal::CheckWrong => 4,
+        Refusal::AddressIllegal => 5,
+        Refusal::CodeUnknown => 6,
+        Refusal::LengthWrong => 7,
+        Refusal::FieldOutside => 8,
+        Refusal::RoomShort => 9,
+        Refusal::LogLeftOver => 10,
+        Refusal::RecordBroken => 11,
+    }
+}
