@@ -1,5 +1,5 @@
-// The numbered refusals of the rules paper ("What the answers mean"), and the two answers that every
-// layer above is made of: a verdict, and what a write answers.
+// The numbered refusals of the rules paper ("What the answers mean"), and the verdict that every judge
+// of the layers above gives.
 ghost use mathlib.Core.Path.{_≡_};
 ghost use Rattle.refusal.specs.Numbers.{numberOf};
 
@@ -22,12 +22,6 @@ pub enum Refusal {
 pub enum Verdict {
     Good,
     Refused(Refusal),
-}
-
-// What a write answers: its own length, or length 0 beside the refusal.
-pub struct Written {
-    pub verdict: Verdict,
-    pub length: usize,
 }
 
 // The paper's number of a refusal.

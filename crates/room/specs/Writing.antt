@@ -2,21 +2,27 @@
 -- one changes only its own length of bytes." Said here once, for frames, messages and log records.
 use Prim.Native.Nat.{ℕ}
 use mathlib.Core.Path.{_≡_}
-use mathlib.Core.List.{List, _++_}
-use lib.ListN.{length, drop}
+use mathlib.Core.List.{List}
+use lib.ListN.{length}
+use Rattle.refusal.specs.declared.Refusal.{Refusal}
 use Rattle.refusal.specs.declared.Verdict.{Verdict}
 use Rattle.refusal.specs.declared.Verdict.the-variants.{Good, Refused}
-use Rattle.refusal.specs.declared.Written.{Written}
+use Rattle.room.specs.declared.Written.{Written}
+use Rattle.room.specs.Laying.{over}
 
 -- the answer of a write, and what it leaves in the lent room
 pub record Left : Type 0 where
   pub answer : Written
   pub room : List ℕ
 
+-- "length 0 beside its number"
+abbrev pub refusedWrite : Refusal → Written
+refusedWrite why = record { verdict = Refused why; length = 0 }
+
 -- the write of some bytes into a room, under a verdict
 abbrev pub wrote : Verdict → List ℕ → List ℕ → Left
-wrote Good bytes room = record { answer = record { verdict = Good; length = length bytes }; room = bytes ++ drop (length bytes) room }
-wrote (Refused why) bytes room = record { answer = record { verdict = Refused why; length = 0 }; room = room }
+wrote Good bytes room = record { answer = record { verdict = Good; length = length bytes }; room = over bytes room }
+wrote (Refused why) bytes room = record { answer = refusedWrite why; room = room }
 
 -- a promise: the answer and the room are those of a write, and no others
 pub record Leaves (write : Left) (answered : Written) (left : List ℕ) : Type 0 where

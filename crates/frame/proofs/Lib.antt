@@ -1,0 +1,5 @@
+pub mod Anatomy
+pub mod Pieces
+pub mod Ready
+pub mod Shortness
+pub mod Stuffing

@@ -1,0 +1,121 @@
+-- Shown: what frame writing may answer once a body was made ready, or refused, is what the paper's order 5, 2, 9 answers.
+-- Why: the verdict on the fields decides the rest, and a body made ready is the one the frame is defined by.
+use Prim.Native.Nat.{ℕ, _+_, _≤_, _<_}
+use mathlib.Core.Path.{_≡_, _∙_, refl, sym, ap}
+use mathlib.Core.Bool.{Bool, true, false, not}
+use mathlib.Core.List.{List}
+use native.Mathlib.Omega.{arith}
+use borrow.Author.Tests.{lt-ltb, le-ltb, ltb-false}
+use lib.Dec.{ltb}
+use lib.ListN.{length, take}
+use lib.Seq.{take-at}
+use Rattle.refusal.specs.declared.Refusal.{Refusal}
+use Rattle.refusal.specs.declared.Refusal.the-variants.{AddressIllegal, BodyLong, RoomShort}
+use Rattle.refusal.specs.declared.Verdict.{Verdict}
+use Rattle.refusal.specs.declared.Verdict.the-variants.{Good, Refused}
+use Rattle.refusal.specs.Numbers.{refuseIf}
+use Rattle.refusal.proofs.Verdicts.{refused-not-good, test-passed, rest-passed}
+use Rattle.room.specs.declared.Written.{Written}
+use Rattle.room.specs.Laying.{Laid, over}
+use Rattle.room.specs.Writing.{Leaves, refusedWrite}
+use Rattle.room.proofs.Over.{laid-front}
+use Rattle.frame.specs.declared.addresses.Address.{Address}
+use Rattle.frame.specs.declared.writing.Needed.{Needed}
+use Rattle.frame.specs.declared.writing.Needed.the-variants as needed-as
+use Rattle.frame.specs.Addresses.{legal}
+use Rattle.frame.specs.Body.{bodyOf}
+use Rattle.frame.specs.Stuffing.{framed, countFF, needed}
+use Rattle.frame.specs.Writing.{judgedFields, neededFor, needing, judgedWrite, writtenFrame, Prepared}
+use Rattle.frame.proofs.Pieces.{read-back}
+use Rattle.frame.proofs.Stuffing.{framed-length}
+
+needing-good : (verdict : Verdict) (m n : ℕ) → needed-as.Bytes n ≡ needing verdict m → (verdict ≡ Good) × (n ≡ m)
+needing-good Good m n e = (refl, cc)
+needing-good (Refused why) m n e = (cc, cc)
+
+needing-refused : (verdict : Verdict) (m : ℕ) (why : Refusal) → needed-as.Refused why ≡ needing verdict m → verdict ≡ Refused why
+needing-refused Good m why e = cc
+needing-refused (Refused other) m why e = cc
+
+-- a chain of two tests that refuses goes on refusing, whatever is judged after it
+chain-refused : (a b : Bool) (p q : Refusal) (after : Verdict) (why : Refusal) → refuseIf a p (refuseIf b q Good) ≡ Refused why → refuseIf a p (refuseIf b q after) ≡ Refused why
+chain-refused true b p q after why e = e
+chain-refused false true p q after why e = e
+chain-refused false false p q after why e = refused-not-good (sym e)
+
+module _ (address : Address) (code : ℕ) (data′ : List ℕ) where
+  -- the three answers of making ready
+  pub illegal-prepared : (empty left : List ℕ) → legal address ≡ false → Prepared address code data′ empty (needed-as.Refused AddressIllegal) left
+  unfolding neededFor judgedFields
+  illegal-prepared empty left illegal = record { answer = rw illegal; body = λ good. refused-not-good (rw illegal at good) }
+
+  pub long-prepared : (empty left : List ℕ) → legal address ≡ true → 255 < length (bodyOf address code data′)
+      → Prepared address code data′ empty (needed-as.Refused BodyLong) left
+  unfolding neededFor judgedFields
+  long-prepared empty left is-legal long =
+      let test = lt-ltb 255 _ long in
+      record { answer = rw (is-legal, test); body = λ good. refused-not-good (rw (is-legal, test) at good) }
+
+  pub ready-prepared : {empty left : List ℕ} {end count : ℕ} → legal address ≡ true → length (bodyOf address code data′) ≤ 255 → 255 ≤ length empty
+      → Laid 0 (bodyOf address code data′) empty end left → count ≡ countFF (take end left)
+      → Prepared address code data′ empty (needed-as.Bytes (end + 3 + count)) left
+  unfolding neededFor judgedFields needed
+  ready-prepared {empty} {left} {end} {count} is-legal short enough laid counted =
+      let fits : length (bodyOf address code data′) ≤ length empty = omega arith in
+      let test = le-ltb 255 _ short in
+      record {
+        answer = rw (is-legal, test, counted, read-back fits laid, laid-front fits laid .0);
+        body = λ _. laid-front fits laid .1;
+      }
+
+  -- what was made ready tells the verdict on the fields, and the room needed
+  pub bytes-good : {n : ℕ} {empty left : List ℕ} → Prepared address code data′ empty (needed-as.Bytes n) left
+      → (judgedFields address code data′ Good ≡ Good) × (n ≡ needed (bodyOf address code data′))
+  unfolding neededFor
+  bytes-good {n} p = needing-good (judgedFields address code data′ Good) (needed (bodyOf address code data′)) n (p .answer)
+
+  pub good-length : judgedFields address code data′ Good ≡ Good → length (bodyOf address code data′) ≤ 255
+  unfolding judgedFields
+  good-length good = ltb-false 255 _ (test-passed (ltb 255 (length (bodyOf address code data′))) _ _ (rest-passed (not (legal address)) _ _ good))
+
+  fields-good : (after : Verdict) → judgedFields address code data′ Good ≡ Good → judgedFields address code data′ after ≡ after
+  unfolding judgedFields
+  fields-good after good =
+      let is-legal = test-passed (not (legal address)) _ _ good in
+      let fits = le-ltb 255 _ (good-length good) in
+      rw (is-legal, fits)
+
+  -- 5 or 2
+  pub refused-leaves : {why : Refusal} {empty left room : List ℕ} {answered : Written} → Prepared address code data′ empty (needed-as.Refused why) left
+      → answered ≡ refusedWrite why → Leaves (writtenFrame address code data′ room) answered room
+  unfolding neededFor writtenFrame judgedWrite judgedFields
+  refused-leaves {why} {empty} {left} {room} p e =
+      let verdict = needing-refused (judgedFields address code data′ Good) (needed (bodyOf address code data′)) why (p .answer) in
+      let stays = chain-refused (not (legal address)) (ltb 255 (length (bodyOf address code data′))) _ _ (refuseIf (ltb (length room) (needed (bodyOf address code data′))) RoomShort Good) why verdict in
+      rw stays (record { answer = e; room = refl })
+
+  -- 9
+  pub short-leaves : {n : ℕ} {empty left room : List ℕ} {answered : Written} → Prepared address code data′ empty (needed-as.Bytes n) left
+      → length room < n → answered ≡ refusedWrite RoomShort → Leaves (writtenFrame address code data′ room) answered room
+  unfolding writtenFrame judgedWrite
+  short-leaves {n} {empty} {left} {room} p short e =
+      let good = bytes-good p in
+      let under : length room < needed (bodyOf address code data′) = rw (good .1) at short in
+      rw (fields-good (refuseIf (ltb (length room) (needed (bodyOf address code data′))) RoomShort Good) (good .0), lt-ltb _ _ under) (record { answer = e; room = refl })
+
+  -- the body made ready is there to be read
+  pub ready-body : {n end : ℕ} {empty left : List ℕ} → Prepared address code data′ empty (needed-as.Bytes n) left
+      → end ≡ length (bodyOf address code data′) → take end left ≡ bodyOf address code data′
+  ready-body {n} {end} {empty} {left} p e =
+      ap (λ (l : List ℕ). take end l) (p .body (bytes-good p .0)) ∙ take-at (bodyOf address code data′) _ end (sym e)
+
+  -- the frame
+  pub good-leaves : {n length′ : ℕ} {empty left room wrote : List ℕ} → Prepared address code data′ empty (needed-as.Bytes n) left → n ≤ length room
+      → Laid 0 (framed (bodyOf address code data′)) room length′ wrote → Leaves (writtenFrame address code data′ room) (record { verdict = Good; length = length′ }) wrote
+  unfolding writtenFrame judgedWrite
+  good-leaves {n} {length′} {empty} {left} {room} p enough laid =
+      let good = bytes-good p in
+      let reaches : needed (bodyOf address code data′) ≤ length room = rw (good .1) at enough in
+      let fits : length (framed (bodyOf address code data′)) ≤ length room = rw (framed-length (bodyOf address code data′)) reaches in
+      rw (fields-good (refuseIf (ltb (length room) (needed (bodyOf address code data′))) RoomShort Good) (good .0), le-ltb _ _ reaches)
+      (record { answer = ap (λ (n : ℕ). record { verdict = Good; length = n }) (laid-front fits laid .0); room = laid-front fits laid .1 })

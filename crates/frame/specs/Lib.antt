@@ -1,0 +1,4 @@
+pub mod Addresses
+pub mod Body
+pub mod Stuffing
+pub mod Writing

@@ -1,0 +1,50 @@
+-- 01, "What the answers mean": "Frame writing is given address, code and data bytes, works out the check itself, and judges 5, 2, 9."
+use Prim.Native.Nat.{ℕ}
+use mathlib.Core.Bool.{not}
+use mathlib.Core.Path.{_≡_}
+use mathlib.Core.List.{List}
+use lib.ListN.{length}
+use lib.Dec.{ltb}
+use Rattle.refusal.specs.declared.Refusal.the-variants.{AddressIllegal, BodyLong, RoomShort}
+use Rattle.refusal.specs.declared.Verdict.{Verdict}
+use Rattle.refusal.specs.declared.Verdict.the-variants.{Good, Refused}
+use Rattle.refusal.specs.Numbers.{refuseIf}
+use Rattle.room.specs.Laying.{over}
+use Rattle.room.specs.Writing.{Left, wrote}
+use Rattle.frame.specs.declared.addresses.Address.{Address}
+use Rattle.frame.specs.declared.writing.Needed.{Needed}
+use Rattle.frame.specs.declared.writing.Needed.the-variants as needed-as
+use Rattle.frame.specs.Addresses.{legal}
+use Rattle.frame.specs.Body.{bodyOf}
+use Rattle.frame.specs.Stuffing.{framed, needed}
+
+-- 5, then 2, then whatever comes after
+unfoldable pub judgedFields : Address → ℕ → List ℕ → Verdict → Verdict
+judgedFields address code data′ after =
+    refuseIf (not (legal address)) AddressIllegal
+    (refuseIf (ltb 255 (length (bodyOf address code data′))) BodyLong
+    after)
+
+-- the room rule's number, without writing
+abbrev pub needing : Verdict → ℕ → Needed
+needing Good bytes = needed-as.Bytes bytes
+needing (Refused why) bytes = needed-as.Refused why
+
+unfoldable pub neededFor : Address → ℕ → List ℕ → Needed
+neededFor address code data′ = needing (judgedFields address code data′ Good) (needed (bodyOf address code data′))
+
+-- 5, 2, 9
+unfoldable pub judgedWrite : Address → ℕ → List ℕ → List ℕ → Verdict
+judgedWrite address code data′ room =
+    judgedFields address code data′
+    (refuseIf (ltb (length room) (needed (bodyOf address code data′))) RoomShort
+    Good)
+
+-- the frame in the first bytes of the room, every other byte as it stood; refused, every byte as it stood
+unfoldable pub writtenFrame : Address → ℕ → List ℕ → List ℕ → Left
+writtenFrame address code data′ room = wrote (judgedWrite address code data′ room) (framed (bodyOf address code data′)) room
+
+-- a body made ready in some room of our own, together with the room its frame will need
+pub record Prepared (address : Address) (code : ℕ) (data′ empty : List ℕ) (answered : Needed) (left : List ℕ) : Type 0 where
+  pub answer : answered ≡ neededFor address code data′
+  pub body : judgedFields address code data′ Good ≡ Good → left ≡ over (bodyOf address code data′) empty

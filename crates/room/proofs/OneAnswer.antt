@@ -1,0 +1,23 @@
+-- Shown: each promise of this crate, and the promise of every write above it, admits one answer and one room.
+-- Why: each is an equation with a definition for the answer and one for the room.
+use Prim.Native.Nat.{ℕ}
+use mathlib.Core.Path.{_≡_}
+use mathlib.Core.List.{List, [], _∷_}
+use Rattle.refusal.specs.declared.Refusal.{Refusal}
+use Rattle.refusal.proofs.OneAnswer.{one}
+use Rattle.room.specs.declared.Written.{Written}
+use Rattle.room.specs.Laying.{Laid}
+use Rattle.room.specs.Writing.{Left, Leaves, refusedWrite}
+
+pub refused-write-one : (why : Refusal) (a b : Written) → a ≡ refusedWrite why → b ≡ refusedWrite why → a ≡ b
+refused-write-one why a b = one
+
+pub lay-one : {at a b : ℕ} {source room l m : List ℕ} → Laid at source room a l → Laid at source room b m → (a ≡ b) × (l ≡ m)
+lay-one p q = (one (p .place) (q .place), one (p .room) (q .room))
+
+pub lay-byte-one : {at byte a b : ℕ} {room l m : List ℕ} → Laid at (byte ∷ []) room a l → Laid at (byte ∷ []) room b m → (a ≡ b) × (l ≡ m)
+lay-byte-one = lay-one
+
+-- a write's promise fixes the answer and every byte of the lent room
+pub leaves-one : {write : Left} {a b : Written} {l m : List ℕ} → Leaves write a l → Leaves write b m → (a ≡ b) × (l ≡ m)
+leaves-one p q = (one (p .answer) (q .answer), one (p .room) (q .room))

@@ -1,0 +1,50 @@
+// Lent room: what a write answers, and bytes laid into a room one piece after the other. A room is the
+// caller's; what is not written stays as it stood.
+use refusal::Refusal;
+use refusal::Verdict;
+ghost use mathlib.Core.Path.{_≡_};
+ghost use mathlib.Core.List.{[], _∷_};
+ghost use Rattle.room.specs.Laying.{Laid};
+ghost use Rattle.room.specs.Writing.{refusedWrite};
+
+// What a write answers: its own length, or length 0 beside the refusal.
+pub struct Written {
+    pub verdict: Verdict,
+    pub length: usize,
+}
+
+// What a refused write answers.
+pub fn refused_write(why: Refusal) -> Written
+    ensures { λ r. ⌜ r ≡ refusedWrite why ⌝ }
+{
+    Written {
+        verdict: Verdict::Refused(why),
+        length: 0,
+    }
+}
+
+// One byte into a room at a place. It answers the place behind it; at or past the room's end nothing is laid.
+pub fn lay_byte(byte: u8, room: &mut [u8], at: usize) -> usize
+    ensures { λ r. ⌜ Laid at (byte ∷ []) (now (room .entry)) r (now (room .exit)) ⌝ }
+{
+    if room.len() <= at {
+        return at;
+    }
+    room[at] = byte;
+    at + 1
+}
+
+// All bytes of a slice into a room from a place on. It answers the place behind them; where they would pass
+// the room's end nothing is laid.
+pub fn lay(source: &[u8], room: &mut [u8], at: usize) -> usize
+    ensures { λ r. ⌜ Laid at (now (source .entry)) (now (room .entry)) r (now (room .exit)) ⌝ }
+{
+    if room.len() < at {
+        return at;
+    }
+    if room.len() - at < source.len() {
+        return at;
+    }
+    let count = bytes::copy(source, &mut room[at..]);
+    at + count
+}
