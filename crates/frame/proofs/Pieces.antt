@@ -25,7 +25,7 @@ pub unchecked-laid : (address : Address) {code a b c : ℕ} {data′ room l m n 
 unfolding unchecked
 unchecked-laid address {code} {a} {b} {c} {data′} {room} {l} {m} {n} h at-front behind-address behind-code =
     let size : length (addressBytes address ++ (code ∷ data′)) ≡ length (addressBytes address) + length (code ∷ data′) =
-      length-append (addressBytes address) (code ∷ data′) in
+    length-append (addressBytes address) (code ∷ data′) in
     let half : length (addressBytes address ++ (code ∷ [])) ≡ length (addressBytes address) + 1 = length-append (addressBytes address) (code ∷ []) in
     rw (append-assoc (addressBytes address) (code ∷ []) data′)
     at (laid-then (omega arith) (laid-then (omega arith) at-front behind-address) behind-code)
@@ -72,8 +72,13 @@ module _ (body : List ℕ) (i : ℕ) (more : i < length body) where
   stuffed-so-far =
       let part = stuffed-append (take (i + 1) body) (drop (i + 1) body) in
       let whole : stuffed body ≡ stuffed (take (i + 1) body) ++ stuffed (drop (i + 1) body) = ap stuffed (sym (take-append-drop (i + 1) body)) ∙ part in
-      omega (arith, ap length stuffed-next, ap length whole, length-append (stuffed (take i body)) (stuffedByte (getD body i 0)),
-        length-append (stuffed (take (i + 1) body)) (stuffed (drop (i + 1) body)))
+      omega (
+        arith,
+        ap length stuffed-next,
+        ap length whole,
+        length-append (stuffed (take i body)) (stuffedByte (getD body i 0)),
+        length-append (stuffed (take (i + 1) body)) (stuffed (drop (i + 1) body)),
+      )
 
   pub next-fits : {at next : ℕ} {room middle : List ℕ} → at + length (stuffed body) ≤ length room → Laid at (stuffed (take i body)) room next middle
       → next + length (stuffedByte (getD body i 0)) ≤ length middle

@@ -4,7 +4,7 @@ use Prim.Native.Nat.{ℕ, _+_, _≤_}
 use mathlib.Core.Path.{_≡_, refl}
 use mathlib.Core.Bool.{Bool, true, false, _&&_, _||_, true≢false}
 use mathlib.Core.List.{List}
-use borrow.Author.Tests.{ltb-false, eq-eqb, eqb-true}
+use borrow.Author.Tests.{ltb-false, le-ltb, eq-eqb, eqb-true}
 use lib.Dec.{ltb, eqb}
 use lib.ListN.{length, getD}
 use Rattle.refusal.specs.declared.Verdict.the-variants.{Good}
@@ -28,6 +28,15 @@ three body e = ltb-false (length body) 3 (neither-left _ _ e)
 pub six : (body : List ℕ) → short body ≡ false → getD body 0 0 ≡ 0 → 6 ≤ length body
 unfolding short
 six body e zero-first = ltb-false (length body) 6 (rw (eq-eqb (getD body 0 0) 0 zero-first) at (neither-right (ltb (length body) 3) (eqb (getD body 0 0) 0 && ltb (length body) 6) e))
+
+-- and that is all that refusal 1 asks
+pub not-short : (body : List ℕ) → 3 ≤ length body → (getD body 0 0 ≡ 0 → 6 ≤ length body) → short body ≡ false
+unfolding short
+not-short body h k = rw (le-ltb (length body) 3 h) (by-first (eqb (getD body 0 0) 0) refl)
+  where
+    by-first : (first : Bool) → eqb (getD body 0 0) 0 ≡ first → (first && ltb (length body) 6) ≡ false
+    by-first true zero-first = le-ltb (length body) 6 (k (eqb-true (getD body 0 0) 0 zero-first))
+    by-first false other = refl
 
 -- behind the address of a body that is not short, two bytes stand: code and check
 pub address-inside : (body : List ℕ) → short body ≡ false → addressLength (addressIn body) + 2 ≤ length body

@@ -9,6 +9,7 @@ pub enum Address {
 
 // The highest short address, and the highest serial: three bytes of it.
 const HIGHEST_SHORT: u8 = 0x9F;
+
 const HIGHEST_SERIAL: u32 = 16_777_215;
 
 // Whether an address may stand in a frame.

@@ -153,10 +153,10 @@ pub fn write(address: Address, code: u8, data: &[u8], room: &mut [u8]) -> Writte
     match prepare(address, code, data, &mut body) {
         Needed::Refused(why) => refused_write(why),
         Needed::Bytes(needed) => {
+            let end = body_length(address, data);
             if room.len() < needed {
                 return refused_write(Refusal::RoomShort);
             }
-            let end = body_length(address, data);
             let length = put_frame(&body[0..end], room);
             Written {
                 verdict: Verdict::Good,

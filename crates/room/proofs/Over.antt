@@ -64,8 +64,8 @@ part-laid at source room part h e =
     record {
       place = sym (behind-fits at source room h);
       room =
-        rw (e, take-length, take-all (length room - at) (drop at room) rest, drop-of-length-le (drop at room) rest, append-nil, drop-drop)
-        (sym (laid-is at source room h));
+          rw (e, take-length, take-all (length room - at) (drop at room) rest, drop-of-length-le (drop at room) rest, append-nil, drop-drop)
+          (sym (laid-is at source room h));
     }
 
 -- no piece at all
@@ -95,16 +95,16 @@ laid-then {at} {next} {last} {first} {second} {room} {middle} {left} h l m =
     let seam : length (take at room ++ first) ≡ next = front-length at first room fits ∙ sym here in
     record {
       place =
-        m .place ∙ behind-fits next second middle there ∙ ap (λ (n : ℕ). n + length second) here ∙ add-assoc at (length first) (length second)
-        ∙ ap (λ (n : ℕ). at + n) (sym (length-append first second)) ∙ sym (behind-fits at (first ++ second) room both);
+          m .place ∙ behind-fits next second middle there ∙ ap (λ (n : ℕ). n + length second) here ∙ add-assoc at (length first) (length second)
+          ∙ ap (λ (n : ℕ). at + n) (sym (length-append first second)) ∙ sym (behind-fits at (first ++ second) room both);
       room =
-        m .room ∙ laid-fits next second middle there
-        ∙ ap (λ (l : List ℕ). over (take next l ++ second) l) (l .room ∙ laid-fits at first room fits)
-        ∙ ap (λ (front : List ℕ). over (front ++ second) (over (take at room ++ first) room))
-        (take-at (take at room ++ first) (drop (length (take at room ++ first)) room) next seam)
-        ∙ over-over (take at room ++ first) second room
-        ∙ ap (λ (front : List ℕ). over front room) (append-assoc (take at room) first second)
-        ∙ sym (laid-fits at (first ++ second) room both);
+          m .room ∙ laid-fits next second middle there
+          ∙ ap (λ (l : List ℕ). over (take next l ++ second) l) (l .room ∙ laid-fits at first room fits)
+          ∙ ap (λ (front : List ℕ). over (front ++ second) (over (take at room ++ first) room))
+          (take-at (take at room ++ first) (drop (length (take at room ++ first)) room) next seam)
+          ∙ over-over (take at room ++ first) second room
+          ∙ ap (λ (front : List ℕ). over front room) (append-assoc (take at room) first second)
+          ∙ sym (laid-fits at (first ++ second) room both);
     }
 
 -- a piece at the front of a room

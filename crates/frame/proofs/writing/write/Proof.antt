@@ -21,17 +21,16 @@ use Rattle.frame.proofs.writing.prepare.Reads as prepare-reads
 use Rattle.frame.proofs.writing.put_frame.Reads as put-frame-reads
 use Rattle.room.proofs.refused_write.Reads as refused-write-reads
 
--- where the room is long enough, the body was made ready, and what is put is that body
-ready : (c : tie.Else1) → Prepared (c .before .before .before .before .before .before .before .before .before .args .address) (c .before .before .before .before .before .before .before .before .before .args .code) (c .before .before .before .before .before .before .before .before .before .args .«data» .now) (replicate 255 0) (Bytes (c .before .before .needed .given .0 .0)) (c .before .before .before .before .before .prepare .last .1 .1 .1 .0)
+-- where the answer is a number of bytes, the body was made ready, and what is put is that body
+ready : (c : tie.After-body-length) → Prepared (c .before .before .before .before .before .before .before .before .before .args .address) (c .before .before .before .before .before .before .before .before .before .args .code) (c .before .before .before .before .before .before .before .before .before .args .«data» .now) (replicate 255 0) (Bytes (c .before .before .needed .given .0 .0)) (c .before .before .before .before .before .prepare .last .1 .1 .1 .0)
 ready c = rw (c .before .before .needed .given .1) at (c .before .before .before .before .before .prepare .ensures)
 
-end-is : (c : tie.After-body-length) → c .body-length .result ≡ length (bodyOf (c .before .before .before .before .before .before .before .before .before .before .args .address) (c .before .before .before .before .before .before .before .before .before .before .args .code) (c .before .before .before .before .before .before .before .before .before .before .args .«data» .now))
-end-is c = c .body-length .ensures ∙ sym (size (c .before .before .before .before .before .before .before .before .before .before .args .address) (c .before .before .before .before .before .before .before .before .before .before .args .code) (c .before .before .before .before .before .before .before .before .before .before .args .«data» .now))
+end-is : (c : tie.After-body-length) → c .body-length .result ≡ length (bodyOf (c .before .before .before .before .before .before .before .before .before .args .address) (c .before .before .before .before .before .before .before .before .before .args .code) (c .before .before .before .before .before .before .before .before .before .args .«data» .now))
+end-is c = c .body-length .ensures ∙ sym (size (c .before .before .before .before .before .before .before .before .before .args .address) (c .before .before .before .before .before .before .before .before .before .args .code) (c .before .before .before .before .before .before .before .before .before .args .«data» .now))
 
-put-body : (c : tie.After-put-frame-arg2) → take (c .before .before .before .body-length .result - 0) (c .before .before .before .before .before .before .before .before .before .prepare .last .1 .1 .1 .0) ≡ bodyOf (c .before .before .before .before .before .before .before .before .before .before .before .before .before .args .address) (c .before .before .before .before .before .before .before .before .before .before .before .before .before .args .code) (c .before .before .before .before .before .before .before .before .before .before .before .before .before .args .«data» .now)
+put-body : (c : tie.After-body-length) → take (c .body-length .result - 0) (c .before .before .before .before .before .prepare .last .1 .1 .1 .0) ≡ bodyOf (c .before .before .before .before .before .before .before .before .before .args .address) (c .before .before .before .before .before .before .before .before .before .args .code) (c .before .before .before .before .before .before .before .before .before .args .«data» .now)
 put-body c =
-    ap (λ (n : ℕ). take n (c .before .before .before .before .before .before .before .before .before .prepare .last .1 .1 .1 .0)) (sub-zero (c .before .before .before .body-length .result))
-    ∙ ready-body _ _ _ (ready (c .before .before .before .before)) (end-is (c .before .before .before))
+    ap (λ (n : ℕ). take n (c .before .before .before .before .before .prepare .last .1 .1 .1 .0)) (sub-zero (c .body-length .result)) ∙ ready-body _ _ _ (ready c) (end-is c)
 
 slice-aggregate-prepare : tie.Need-slice-aggregate-prepare
 slice-aggregate-prepare c = search needs
@@ -52,7 +51,7 @@ refused-write-requires-2 : tie.Need-refused-write-requires-2
 refused-write-requires-2 c κs = search needs
 
 returns : tie.Need-returns
-returns c = short-leaves _ _ _ (rw (c .before .before .before .needed .given .1) at (c .before .before .before .before .before .before .prepare .ensures)) (c .before .if1 .taken) (c .refused-write2 .ensures)
+returns c = short-leaves _ _ _ (ready (c .before .before)) (c .before .if1 .taken) (c .refused-write2 .ensures)
 
 body-length-requires : tie.Need-body-length-requires
 body-length-requires c κs = search needs
@@ -65,12 +64,13 @@ part-put-frame-start c = search needs
 
 part-put-frame-end : tie.Need-part-put-frame-end
 part-put-frame-end c =
-    let room = c .before .before .before .before .before .before .before .prepare .kept .1 .1 .1 .0 in
-    omega (arith, end-is (c .before), good-length _ _ _ (bytes-good _ _ _ (ready (c .before .before)) .0), room)
+    let sized = c .before .before in
+    omega (arith, end-is sized, good-length _ _ _ (bytes-good _ _ _ (ready sized) .0), c .before .before .before .before .before .before .before .prepare .kept .1 .1 .1 .0)
 
 put-frame-requires : tie.Need-put-frame-requires
 put-frame-requires c κs =
-    rw (put-body c) (rw (bytes-good _ _ _ (ready (c .before .before .before .before)) .1) at (c .before .before .before .before .if1 .left))
+    let sized = c .before .before .before .before in
+    rw (put-body sized) (rw (bytes-good _ _ _ (ready sized) .1) at (c .before .before .before .if1 .left))
 
 returns-2 : tie.Need-returns-2
 returns-2 c = refused-leaves _ _ _ (rw (c .before .before .why .given .1) at (c .before .before .before .before .before .prepare .ensures)) (c .refused-write .ensures)
@@ -79,7 +79,7 @@ same-length : tie.Need-same-length
 same-length c = search needs
 
 returns-3 : tie.Need-returns-3
-returns-3 c = good-leaves _ _ _ (ready (c .before .before .before .before .before .before .before)) (c .before .before .before .before .before .before .before .if1 .left) (rw (put-body (c .before .before .before)) at (c .before .before .put-frame .ensures))
+returns-3 c = good-leaves _ _ _ (ready (c .before .before .before .before .before .before .before)) (c .before .before .before .before .before .before .if1 .left) (rw (put-body (c .before .before .before .before .before .before .before)) at (c .before .before .put-frame .ensures))
 
 pub write-spec : {M : Type 1} → statement M
 write-spec =
@@ -90,9 +90,9 @@ write-spec =
     enum-known-why
     refused-write-requires
     enum-known-needed
+    body-length-requires
     refused-write-requires-2
     returns
-    body-length-requires
     sub-put-frame
     part-put-frame-start
     part-put-frame-end
