@@ -1,0 +1,8 @@
+pub mod Bytes
+pub mod Legal
+pub mod Piece
+pub mod AllHeard
+pub mod ByPlaces
+pub mod Demand3
+pub mod Corollaries
+pub mod Cuts

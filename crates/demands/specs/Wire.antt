@@ -1,0 +1,119 @@
+-- Demand 3, in the user's words: "Take any list of frames with legal addresses, right check bytes and bodies that run from address through
+-- code to check in at most 255 bytes, each written with one or more FFs ahead and two or more behind, on one wire. Start listening at any
+-- byte. You get exactly the frames before whose first address byte you heard at least one FF since you joined, whole and in order, and no
+-- refusal. So two different lists never make the same wire."
+use Prim.Native.Nat.{ℕ, _+_, _-_, _%_, _^_, _≤_}
+use mathlib.Core.Path.{_≡_}
+use mathlib.Core.Bool.{Bool, true, false, cond, _||_}
+use mathlib.Core.List.{List, [], _∷_, _++_, map, flatten}
+use lib.ListN.{length, take, drop, replicate}
+use lib.Seq.{slice}
+use lib.Dec.{eqb}
+use Rattle.refusal.specs.declared.Verdict.the-variants.{Good}
+use Rattle.frame.specs.Body.{judged, judgedLent}
+use Rattle.frame.specs.Stuffing.{stuffed, framed, needed}
+use Rattle.line.specs.Listener.{Heard, nothing, frame, refused, Listener, fresh, events, after}
+
+-- a frame on the wire: its body, with some FFs ahead and some behind
+pub record Sent : Type 0 where
+  pub ahead : ℕ
+  pub body : List ℕ
+  pub behind : ℕ
+
+-- "legal addresses, right check bytes and bodies .. in at most 255 bytes, each written with one or more FFs ahead and two or more behind".
+-- Nothing is asked of a body's numbers beyond that: bytes are among them.
+pub record Proper (sent : Sent) : Type 0 where
+  pub good : judged (sent .body) ≡ Good
+  pub most : length (sent .body) ≤ 255
+  pub ahead : 1 ≤ sent .ahead
+  pub behind : 2 ≤ sent .behind
+
+abbrev pub AllProper : List Sent → Type 0
+AllProper [] = Unit {0}
+AllProper (sent ∷ list) = Proper sent × AllProper list
+
+unfoldable pub onWire : Sent → List ℕ
+onWire sent = replicate (sent .ahead) 0xFF ++ (stuffed (sent .body) ++ replicate (sent .behind) 0xFF)
+
+-- "on one wire"
+unfoldable pub wireOf : List Sent → List ℕ
+wireOf [] = []
+wireOf (sent ∷ list) = onWire sent ++ wireOf list
+
+-- at least one FF among some bytes
+unfoldable pub anyFF : List ℕ → Bool
+anyFF [] = false
+anyFF (byte ∷ bytes) = eqb byte 0xFF || anyFF bytes
+
+-- of the frames from place `at` of a wire on: those before whose first address byte a listener who joined at `joined` heard an FF.
+-- A frame's wire count runs from the place of joining up to and with the second FF behind its body.
+unfoldable pub heardOf : List ℕ → ℕ → ℕ → List Sent → List Heard
+heardOf wire joined at [] = []
+heardOf wire joined at (sent ∷ list) =
+    let first = at + sent .ahead in
+    let end = first + length (stuffed (sent .body)) + 2 in
+    let later = heardOf wire joined (at + length (onWire sent)) list in
+    cond (anyFF (slice joined first wire)) (frame ((end - joined) % 2 ^ 64) (length (sent .body)) (sent .body) ∷ later) later
+
+-- Demand 3: joined anywhere, exactly those frames are heard, whole and in order, with both counts, and no refusal
+abbrev pub Demand3 : Type 0
+Demand3 = (list : List Sent) → AllProper list → (joined : ℕ) → events fresh (drop joined (wireOf list)) ≡ heardOf (wireOf list) joined 0 list
+
+-- "and no refusal", once more by itself
+unfoldable pub anyRefused : List Heard → Bool
+anyRefused [] = false
+anyRefused (nothing ∷ heard) = anyRefused heard
+anyRefused (frame wire kept body ∷ heard) = anyRefused heard
+anyRefused (refused why wire kept ∷ heard) = true
+
+abbrev pub NoRefusal : Type 0
+NoRefusal = (list : List Sent) → AllProper list → (joined : ℕ) → anyRefused (events fresh (drop joined (wireOf list))) ≡ false
+
+-- all frames of a list, as heard by who has taken `taken` bytes where their wire begins
+unfoldable pub framesOf : ℕ → List Sent → List Heard
+framesOf taken [] = []
+framesOf taken (sent ∷ list) =
+    let end = taken + sent .ahead + length (stuffed (sent .body)) + 2 in
+    frame (end % 2 ^ 64) (length (sent .body)) (sent .body) ∷ framesOf (taken + length (onWire sent)) list
+
+-- heard from its start, a wire gives the whole list back
+abbrev pub FromStart : Type 0
+FromStart = (list : List Sent) → AllProper list → events fresh (wireOf list) ≡ framesOf 0 list
+
+-- "So two different lists never make the same wire." (A list of frames is one of bodies: an FF between two of them is behind one or ahead
+-- of the other, and nobody can tell.)
+abbrev pub OneList : Type 0
+OneList =
+    (list other : List Sent) → AllProper list → AllProper other → wireOf list ≡ wireOf other
+    → map (λ (sent : Sent). sent .body) list ≡ map (λ (sent : Sent). sent .body) other
+
+-- demand 2's frame is one with one FF ahead and two behind
+abbrev pub OfFrameRule : Type 0
+OfFrameRule = (body : List ℕ) → framed body ≡ onWire (record { ahead = 1; body = body; behind = 2 })
+
+-- what the frame rule writes reads back as that one frame; all the bytes written are counted
+abbrev pub ReadsBack : Type 0
+ReadsBack = (body : List ℕ) → judgedLent body ≡ Good → events fresh (framed body) ≡ frame (needed body) (length body) body ∷ []
+
+-- "A capture that stops inside a body gives no event for it": cut anywhere ahead of the second FF behind the last body
+abbrev pub StopsInside : Type 0
+StopsInside =
+    (list : List Sent) (last : Sent) → AllProper list → Proper last → (stop : ℕ) → stop ≤ last .ahead + length (stuffed (last .body)) + 1
+    → events fresh (wireOf list ++ take stop (onWire last)) ≡ framesOf 0 list
+
+-- the wire cut in two anywhere: the second part is heard from where the first left the listener, and leaves it as the whole does
+pub record CutInTwo (listener : Listener) (first second : List ℕ) : Type 0 where
+  pub heard : events listener (first ++ second) ≡ events listener first ++ events (after listener first) second
+  pub left : after listener (first ++ second) ≡ after (after listener first) second
+
+abbrev pub AnyCut : Type 0
+AnyCut = (listener : Listener) (first second : List ℕ) → CutInTwo listener first second
+
+-- the events of blocks that are fed one after the other
+unfoldable pub fed : Listener → List (List ℕ) → List Heard
+fed listener [] = []
+fed listener (block ∷ blocks) = events listener block ++ fed (after listener block) blocks
+
+-- cutting the bytes into blocks anywhere changes nothing
+abbrev pub AnyBlocks : Type 0
+AnyBlocks = (listener : Listener) (blocks : List (List ℕ)) → fed listener blocks ≡ events listener (flatten blocks)

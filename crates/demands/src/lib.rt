@@ -1,0 +1,1 @@
+pub fn nothing_yet() {}

@@ -1,0 +1,4 @@
+pub mod Blocks
+pub mod Joined
+pub mod Keeping
+pub mod Moves
