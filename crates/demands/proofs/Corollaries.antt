@@ -10,11 +10,11 @@ use lib.ListN.{length}
 use lib.Seq.{slice}
 use lib.Dec.{lit≤}
 use Rattle.frame.specs.Stuffing.{stuffed, countFF, framed, needed}
+use Rattle.frame.proofs.Stuffing.{stuffed-length, count-most}
+use Rattle.frame.proofs.Rebuilding.{lent-at-most, lent-good}
 use Rattle.line.specs.Listener.{Heard, nothing, frame, refused, fresh, events}
 use Rattle.demands.specs.Wire.{Sent, Proper, AllProper, onWire, wireOf, anyFF, heardOf, anyRefused, framesOf, NoRefusal, FromStart, OneList, OfFrameRule, ReadsBack}
 use Rattle.demands.proofs.Bytes.{clock}
-use Rattle.demands.proofs.Legal.{at-most, at-end}
-use Rattle.demands.proofs.Piece.{Stuffed, stuff}
 use Rattle.demands.proofs.AllHeard.{to-its-end, either-way, opens-at-once}
 use Rattle.demands.proofs.Demand3.{demand3}
 
@@ -59,19 +59,6 @@ pub one-list : OneList
 one-list list other proper others same =
     sym (names-its-list list proper) ∙ ap (λ (wire : List ℕ). bodies (events fresh wire)) same ∙ names-its-list other others
 
--- the room rule: each FF of a body takes two places
-stuffed-length : {body wire : List ℕ} → Stuffed body wire → length wire ≡ length body + countFF body
-unfolding countFF
-stuffed-length Stuffed.none = refl
-stuffed-length (Stuffed.ff s) = rw (stuffed-length s) (omega arith)
-stuffed-length (Stuffed.other not-ff s) = rw (not-ff, stuffed-length s) (omega arith)
-
-count-most : {body wire : List ℕ} → Stuffed body wire → countFF body ≤ length body
-unfolding countFF
-count-most Stuffed.none = omega arith
-count-most (Stuffed.ff s) = omega (arith, count-most s)
-count-most (Stuffed.other not-ff s) = rw not-ff (omega (arith, count-most s))
-
 pub of-frame-rule : OfFrameRule
 unfolding framed onWire
 of-frame-rule body = refl
@@ -80,10 +67,10 @@ pub reads-back : ReadsBack
 unfolding needed wireOf framesOf
 reads-back body good =
     let written : Sent = record { ahead = 1; body = body; behind = 2 } in
-    let most : length body ≤ 255 = at-most body good in
-    let proper : Proper written = record { good = at-end body good; most = most; ahead = lit≤ tt; behind = lit≤ tt } in
-    let twice : countFF body ≤ length body = count-most (stuff body) in
-    let places : 0 + 1 + length (stuffed body) + 2 ≡ length body + 3 + countFF body = omega (arith, stuffed-length (stuff body)) in
+    let most : length body ≤ 255 = lent-at-most body good in
+    let proper : Proper written = record { good = lent-good body good; most = most; ahead = lit≤ tt; behind = lit≤ tt } in
+    let twice : countFF body ≤ length body = count-most body in
+    let places : 0 + 1 + length (stuffed body) + 2 ≡ length body + 3 + countFF body = omega (arith, stuffed-length body) in
     let small : length body + 3 + countFF body < 2 ^ 64 = omega arith in
     ap (events fresh) (of-frame-rule body ∙ sym (append-nil (onWire written)))
     ∙ from-start (written ∷ []) (proper, tt)

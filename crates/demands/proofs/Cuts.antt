@@ -14,7 +14,7 @@ use Rattle.demands.proofs.Piece.{stuff, body-held}
 use Rattle.demands.proofs.AllHeard.{size, all-heard, Opens, either-way, opens-wire, opens-at-once, opens-part}
 
 -- events go byte by byte, so a cut changes nothing
-and-then-append : (heard : Heard) (later others : List Heard) → andThen heard (later ++ others) ≡ andThen heard later ++ others
+pub and-then-append : (heard : Heard) (later others : List Heard) → andThen heard (later ++ others) ≡ andThen heard later ++ others
 unfolding andThen
 and-then-append nothing later others = refl
 and-then-append (frame wire kept body) later others = refl

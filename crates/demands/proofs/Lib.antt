@@ -1,6 +1,6 @@
 pub mod Bytes
-pub mod Legal
 pub mod Piece
+pub mod Reading
 pub mod AllHeard
 pub mod ByPlaces
 pub mod Demand3

@@ -13,7 +13,7 @@ use Rattle.frame.specs.Body.{judged}
 use Rattle.frame.specs.Stuffing.{stuffed, stuffedByte}
 use Rattle.line.specs.Listener.{Heard, frame, seeking, delimited, inside, held, events}
 use Rattle.demands.proofs.Bytes.{clock, at, seeking-ff, seeking-other, delimited-fe, delimited-other, delimited-run, inside-ff, inside-other, held-fe, held-ff}
-use Rattle.demands.proofs.Legal.{not-empty, first-low}
+use Rattle.frame.proofs.Rebuilding.{good-not-empty, first-low}
 
 -- a body beside its stuffed form, byte by byte
 pub data Stuffed : (body wire : List ℕ) → Type 0 where
@@ -69,10 +69,10 @@ seeking-late (other {byte} {body} {wire} not-ff s) (suc late) rest n m e = seeki
 pub body-held : {body wire : List ℕ} → Stuffed body wire → judged body ≡ Good → length body ≤ 255 → (n m : ℕ) (rest : List ℕ)
     → n + length wire + 1 ≡ m
     → events (at delimited n) (wire ++ (0xFF ∷ rest)) ≡ events (at (held body) m) rest
-body-held none good most n m rest e = absurd (not-empty good)
-body-held (ff {body} s) good most n m rest e = let low : 0xFF < 0xFE = first-low 0xFF body good in absurd (omega arith)
+body-held none good most n m rest e = absurd (good-not-empty good)
+body-held (ff {body} s) good most n m rest e = let low : 0xFF < 0xFE = first-low (0xFF ∷ body) good in absurd (omega arith)
 body-held (other {byte} {body} {wire} not-ff s) good most n m rest e =
-    let low : byte < 0xFE = first-low byte body good in
+    let low : byte < 0xFE = first-low (byte ∷ body) good in
     let clocks : suc (suc n + length wire) ≡ m = omega arith in
     delimited-other n (wire ++ (0xFF ∷ rest)) byte not-ff (ne-eqb byte 0xFE (λ (e : byte ≡ 0xFE). omega arith))
     ∙ inside-body s (byte ∷ []) (0xFF ∷ rest) (suc n) (suc n + length wire) (omega arith) refl

@@ -7,7 +7,7 @@ use mathlib.Core.List.{List, [], _∷_, _++_}
 use native.Mathlib.Omega.{arith}
 use native.Mathlib.Numerals.{add-one}
 use native.Mathlib.Nat.{not-suc-le-zero, le-of-suc-le-suc}
-use borrow.Author.Tests.{le-ltb, leb-true, ne-eqb, eqb-true, eq-eqb, not-false}
+use borrow.Author.Tests.{ltb-false, leb-true, ne-eqb, eqb-true, eq-eqb, not-false}
 use lib.Dec.{T, ltb, leb, eqb, ltb→lt, lit<}
 use lib.ListN.{length, take, drop, getD, length-append, take-append-drop}
 use lib.Seq.{slice, take-at, take-suc, take-take, take-length, slice-cons}
@@ -19,9 +19,9 @@ use Rattle.check_byte.proofs.Laws.{checked, only-check}
 use Rattle.frame.specs.declared.addresses.Address.{Address}
 use Rattle.frame.specs.declared.addresses.Address.the-variants.{Short, Serial}
 use Rattle.frame.specs.Addresses.{legal, addressBytes, addressIn, addressLength}
-use Rattle.frame.specs.Body.{unchecked, bodyOf, short, judged, codeIn, dataIn}
+use Rattle.frame.specs.Body.{unchecked, bodyOf, short, judged, judgedLent, codeIn, dataIn}
 use Rattle.frame.proofs.Anatomy.{address-length, unchecked-length, body-length}
-use Rattle.frame.proofs.Shortness.{address-inside, six, not-short}
+use Rattle.frame.proofs.Shortness.{three, address-inside, six, not-short}
 
 both-left : (a b : Bool) → (a && b) ≡ true → a ≡ true
 both-left true b e = refl
@@ -54,6 +54,18 @@ good-address body good =
 pub good-long : (body : List ℕ) → judged body ≡ Good → short body ≡ false
 unfolding judged
 good-long body good = test-passed (short body) _ _ good
+
+pub good-not-empty : judged [] ≡ Good → ⊥
+good-not-empty good = let long = three [] (good-long [] good) in omega arith
+
+-- a lent body that is good has at most 255 bytes, and is good at its end
+pub lent-at-most : (body : List ℕ) → judgedLent body ≡ Good → length body ≤ 255
+unfolding judgedLent
+lent-at-most body good = ltb-false 255 (length body) (test-passed (ltb 255 (length body)) _ _ good)
+
+pub lent-good : (body : List ℕ) → judgedLent body ≡ Good → judged body ≡ Good
+unfolding judgedLent
+lent-good body good = rest-passed (ltb 255 (length body)) _ _ good
 
 -- the first byte is never FF or FE
 pub first-low : (body : List ℕ) → judged body ≡ Good → getD body 0 0 < 0xFE

@@ -1,6 +1,6 @@
 -- Shown: unstuffing gives a body back, so two bodies never stuff alike; a frame's length is the room rule's.
 -- Why: after each FF exactly one FE is inserted, and the way back takes exactly one byte after each FF.
-use Prim.Native.Nat.{ℕ, suc, _+_}
+use Prim.Native.Nat.{ℕ, suc, _+_, _≤_}
 use mathlib.Core.Path.{_≡_, _∙_, refl, sym, ap}
 use mathlib.Core.Bool.{Bool, true, false, cond}
 use mathlib.Core.List.{List, [], _∷_, _++_, append-nil, append-assoc}
@@ -36,6 +36,15 @@ stuffed-length [] = refl
 stuffed-length (byte ∷ body) =
     length-append (stuffedByte byte) (stuffed body)
     ∙ omega (arith, byte-length byte, stuffed-length body)
+
+pub count-most : (body : List ℕ) → countFF body ≤ length body
+unfolding countFF
+count-most [] = omega arith
+count-most (byte ∷ body) = omega (arith, byte-most (eqb byte 0xFF), count-most body)
+  where
+    byte-most : (test : Bool) → cond test 1 0 ≤ 1
+    byte-most true = omega arith
+    byte-most false = omega arith
 
 -- the length is the room rule's
 pub framed-length : (body : List ℕ) → length (framed body) ≡ needed body

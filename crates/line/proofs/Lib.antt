@@ -2,3 +2,4 @@ pub mod Blocks
 pub mod Joined
 pub mod Keeping
 pub mod Moves
+pub mod OneAnswer
