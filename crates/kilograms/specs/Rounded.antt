@@ -1,0 +1,27 @@
+-- 01, "Weight": "The model reads kilograms as a 64-bit float: the value over 10,000,000, rounded once."
+use mathlib.Core.Bool.{Bool, true, false}
+use lib.IntN.{ℤ, pos, negsuc, natAbs}
+use lib.Ieee.{Float, binary64, round}
+use Rattle.weight.specs.declared.Reading.{Reading}
+use Rattle.weight.specs.declared.Value.{Value}
+use Rattle.weight.specs.declared.Value.the-variants.{Tenths, Refused as NoValue}
+use Rattle.weight.specs.Tenths.{valueOf}
+use Rattle.kilograms.specs.declared.Kilograms.{Kilograms}
+use Rattle.kilograms.specs.declared.Kilograms.the-variants.{Number, Refused}
+
+-- a value below 0; a value of 0 is not, whatever the reading's sign bit
+abbrev pub negative : ℤ → Bool
+negative (pos size) = false
+negative (negsuc size) = true
+
+-- the 64-bit float nearest to the value over 10,000,000
+unfoldable pub rounded : ℤ → Float
+rounded value = round binary64 (negative value) (natAbs value) 10000000
+
+-- each case of a value; a refusal stays what it is
+abbrev pub inKilograms : Value → Kilograms
+inKilograms (Tenths value) = Number (rounded value)
+inKilograms (NoValue why) = Refused why
+
+unfoldable pub kilogramsOf : Reading → Kilograms
+kilogramsOf reading = inKilograms (valueOf reading)

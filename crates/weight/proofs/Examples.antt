@@ -1,0 +1,90 @@
+-- Shown: the readings and values of the judged examples E3 and E4, the largest value, a minus zero, and what is refused.
+-- Why: each side computes to the same.
+use Prim.Native.Nat.{ℕ}
+use mathlib.Core.Path.{_≡_, refl}
+use mathlib.Core.Bool.{Bool, true, false}
+use lib.IntN.{pos, negℤ}
+use Rattle.refusal.specs.declared.Refusal.the-variants.{FieldOutside}
+use Rattle.refusal.specs.Numbers.{numberOf}
+use Rattle.weight.specs.declared.Reading.{Reading}
+use Rattle.weight.specs.declared.Read.the-variants.{Good, Refused as NotRead}
+use Rattle.weight.specs.declared.Packed.the-variants.{Bytes, Refused as NotPacked}
+use Rattle.weight.specs.declared.Value.the-variants.{Tenths, Refused}
+use Rattle.weight.specs.Bytes.{legal, readOf, bytesOf}
+use Rattle.weight.specs.Tenths.{valueOf, differenceOf}
+
+-- a reading without overload and with bits 6 and 5 clear: sign bit, number, point, settled
+abbrev pub shown : Bool → ℕ → ℕ → Bool → Reading
+shown minus number point settled =
+    record { minus = minus; number = number; point = point; bit6 = false; bit5 = false; settled = settled; overload = false }
+
+-- E3: 25.1 kg, not settled
+abbrev pub e3-reading : Reading
+e3-reading = shown false 251 1 false
+
+pub e3-read : readOf 0x51 0x02 0x00 0x01 ≡ Good e3-reading
+unfolding readOf
+e3-read = refl
+
+pub e3-value : valueOf e3-reading ≡ Tenths (pos 251000000)
+unfolding valueOf legal
+e3-value = refl
+
+-- E4: minus 0.5 kg, settled
+abbrev pub e4-reading : Reading
+e4-reading = shown true 5 1 true
+
+pub e4-read : readOf 0x05 0x00 0x00 0x91 ≡ Good e4-reading
+unfolding readOf
+e4-read = refl
+
+pub e4-value : valueOf e4-reading ≡ Tenths (negℤ (pos 5000000))
+unfolding valueOf legal
+e4-value = refl
+
+-- "Gross less net is a signed difference and may be negative."
+pub e3-less-e4 : differenceOf e3-reading e4-reading ≡ Tenths (pos 256000000)
+unfolding differenceOf valueOf legal
+e3-less-e4 = refl
+
+pub e4-less-e3 : differenceOf e4-reading e3-reading ≡ Tenths (negℤ (pos 256000000))
+unfolding differenceOf valueOf legal
+e4-less-e3 = refl
+
+-- "The largest is 9,999,990,000,000."
+pub largest-value : valueOf (shown false 999999 0 true) ≡ Tenths (pos 9999990000000)
+unfolding valueOf legal
+largest-value = refl
+
+-- "Minus zero is 0 in value and keeps its sign bit in the reading."
+abbrev pub minus-zero : Reading
+minus-zero = shown true 0 0 true
+
+pub minus-zero-value : valueOf minus-zero ≡ Tenths (pos 0)
+unfolding valueOf legal
+minus-zero-value = refl
+
+pub minus-zero-bytes : bytesOf minus-zero ≡ Bytes 0x00 0x00 0x00 0x90
+unfolding bytesOf legal
+minus-zero-bytes = refl
+
+-- ---- `FieldOutside` is refusal 8: a half above 9, a number above 999,999, a point above 7, in either reading
+
+pub outside-is-8 : numberOf FieldOutside ≡ 8
+outside-is-8 = refl
+
+pub half-of-ten : readOf 0x0A 0x00 0x00 0x00 ≡ NotRead FieldOutside
+unfolding readOf
+half-of-ten = refl
+
+pub seven-digits : bytesOf (shown false 1000000 0 true) ≡ NotPacked FieldOutside
+unfolding bytesOf legal
+seven-digits = refl
+
+pub point-of-8 : valueOf (shown false 0 8 true) ≡ Refused FieldOutside
+unfolding valueOf legal
+point-of-8 = refl
+
+pub net-outside : differenceOf e3-reading (shown false 0 8 true) ≡ Refused FieldOutside
+unfolding differenceOf legal
+net-outside = refl

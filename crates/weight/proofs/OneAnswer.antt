@@ -1,0 +1,23 @@
+-- Shown: the promise of each public function of this crate admits one answer.
+-- Why: each is an equation with a definition, so two answers that meet it are equal by way of that definition.
+use Prim.Native.Nat.{ℕ}
+use mathlib.Core.Path.{_≡_}
+use Rattle.refusal.proofs.OneAnswer.{one}
+use Rattle.weight.specs.declared.Reading.{Reading}
+use Rattle.weight.specs.declared.Read.{Read}
+use Rattle.weight.specs.declared.Packed.{Packed}
+use Rattle.weight.specs.declared.Value.{Value}
+use Rattle.weight.specs.Bytes.{readOf, bytesOf}
+use Rattle.weight.specs.Tenths.{valueOf, differenceOf}
+
+pub read-bytes-one : (w0 w1 w2 con : ℕ) (a b : Read) → a ≡ readOf w0 w1 w2 con → b ≡ readOf w0 w1 w2 con → a ≡ b
+read-bytes-one w0 w1 w2 con a b = one
+
+pub to-bytes-one : (reading : Reading) (a b : Packed) → a ≡ bytesOf reading → b ≡ bytesOf reading → a ≡ b
+to-bytes-one reading a b = one
+
+pub value-of-one : (reading : Reading) (a b : Value) → a ≡ valueOf reading → b ≡ valueOf reading → a ≡ b
+value-of-one reading a b = one
+
+pub gross-less-net-one : (gross net : Reading) (a b : Value) → a ≡ differenceOf gross net → b ≡ differenceOf gross net → a ≡ b
+gross-less-net-one gross net a b = one

@@ -1,0 +1,50 @@
+-- Shown: a legal reading's number and point, the largest size, and that a size with its sign fits 64 bits.
+-- Why: `legal` is two tests; 10^(7 - point) is at most 10^7; a sign adds at most one to a magnitude.
+use Prim.Native.Nat.{ℕ, zero, suc, _*_, _-_, _^_, _<_, _≤_}
+use mathlib.Core.Path.{_≡_, refl, sym, subst}
+use mathlib.Core.Bool.{Bool, true, false, _&&_}
+use native.Mathlib.Nat.{mul-le-mul, pow-le-pow-right}
+use native.Mathlib.Omega.{arith}
+use lib.Dec.{T, leb}
+use lib.IntN.{ℤ, pos, negsuc, natAbs}
+use lib.Signed.{mag}
+use mir.Syntax.{w64}
+use mir.Val.{SFits}
+use borrow.Author.Tests.{leb-true}
+use Rattle.weight.specs.declared.Reading.{Reading}
+use Rattle.weight.specs.Bytes.{legal}
+use Rattle.weight.specs.Tenths.{signed}
+
+pub and-first : (a b : Bool) → (a && b) ≡ true → a ≡ true
+and-first true b e = refl
+and-first false b e = e
+
+pub and-second : (a b : Bool) → (a && b) ≡ true → b ≡ true
+and-second true b e = e
+and-second false b e = absurd (subst T (sym e) tt)
+
+module _ (reading : Reading) (good : legal reading ≡ true) where
+  pub legal-number : reading .number ≤ 999999
+  unfolding legal
+  legal-number = leb-true _ _ (and-first (leb (reading .number) 999999) (leb (reading .point) 7) good)
+
+  pub legal-point : reading .point ≤ 7
+  unfolding legal
+  legal-point = leb-true _ _ (and-second (leb (reading .number) 999999) (leb (reading .point) 7) good)
+
+-- "The largest is 9,999,990,000,000"
+pub size-le : (number point : ℕ) → number ≤ 999999 → number * 10 ^ (7 - point) ≤ 9999990000000
+size-le number point h = mul-le-mul h (pow-le-pow-right {n = 10} (omega arith) {i = 7 - point} {j = 7} (omega arith))
+
+pub abs-signed : (minus : Bool) (size : ℕ) → natAbs (signed minus size) ≡ size
+abs-signed false size = refl
+abs-signed true zero = refl
+abs-signed true (suc size) = refl
+
+mag-le : (z : ℤ) → mag z ≤ natAbs z
+mag-le (pos n) = omega arith
+mag-le (negsuc n) = omega arith
+
+-- a number whose magnitude is below 2^63 fits
+pub fits-64 : (z : ℤ) → natAbs z < 2 ^ 63 → SFits w64 z
+fits-64 z h = let m = mag-le z in record { sfits = omega arith }

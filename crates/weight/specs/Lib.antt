@@ -1,0 +1,4 @@
+pub mod Digits
+pub mod Status
+pub mod Bytes
+pub mod Tenths

@@ -1,0 +1,219 @@
+// A weight reading and its four bytes, its value in tenths of a milligram, and gross less net (01, "Weight").
+ghost use mathlib.Core.Path.{_≡_};
+ghost use mathlib.Core.Bool.{_&&_};
+ghost use Prim.Native.Nat.{_*_, _^_, _-_, _≤_, _<_};
+ghost use Rattle.weight.specs.Digits.{decimal, allDecimal, twoDigits, pairOf};
+ghost use Rattle.weight.specs.Status.{onAt, statusOf};
+ghost use Rattle.weight.specs.Bytes.{legal, readOf, bytesOf};
+ghost use Rattle.weight.specs.Tenths.{signed, valueOf, differenceOf};
+use refusal::Refusal;
+
+// What a terminal shows: the digits as one number, where the point stands in them, and the marks of the status byte.
+pub struct Reading {
+    pub minus: bool, // the sign bit, also of a zero
+    pub number: u32, // 0 to 999,999
+    pub point: u8, // digits after the point, 0 to 7
+    pub bit6: bool, // a plain bit: the documents disagree on it
+    pub bit5: bool, // a plain bit: the documents disagree on it
+    pub settled: bool,
+    pub overload: bool,
+}
+
+// What four bytes are read as.
+pub enum Read {
+    Good(Reading),
+    Refused(Refusal),
+}
+
+// What a reading is written as. A refusal has no bytes, so it cannot pass for a weight of nothing.
+pub enum Packed {
+    Bytes { w0: u8, w1: u8, w2: u8, con: u8 },
+    Refused(Refusal),
+}
+
+// A signed whole number of tenths of a milligram, or why there is none.
+pub enum Value {
+    Tenths(i64),
+    Refused(Refusal),
+}
+
+// The places of the status byte: the weight of each mark, and the values of the point.
+const MINUS: u8 = 128;
+
+const BIT6: u8 = 64;
+
+const BIT5: u8 = 32;
+
+const SETTLED: u8 = 16;
+
+const OVERLOAD: u8 = 8;
+
+const POINTS: u8 = 8;
+
+const LARGEST_NUMBER: u32 = 999999;
+
+const LARGEST_POINT: u8 = 7;
+
+// Tenths of a milligram in the last digit, for each point.
+const STEPS: [u64; 8] = [10000000, 1000000, 100000, 10000, 1000, 100, 10, 1];
+
+fn is_decimal(byte: u8) -> bool
+    ensures { λ r. ⌜ r ≡ decimal byte ⌝ }
+{
+    (byte / 16 <= 9) & (byte % 16 <= 9)
+}
+
+fn are_decimal(w0: u8, w1: u8, w2: u8) -> bool
+    ensures { λ r. ⌜ r ≡ allDecimal w0 w1 w2 ⌝ }
+{
+    is_decimal(w0) & is_decimal(w1) & is_decimal(w2)
+}
+
+// The two digits of a packed byte, high half first.
+fn two_digits(byte: u8) -> u32
+    ensures { λ r. ⌜ r ≡ twoDigits byte ⌝ }
+{
+    (byte / 16) as u32 * 10 + (byte % 16) as u32
+}
+
+// The last two digits of a number as a packed byte.
+fn pair(number: u32) -> u8
+    ensures { λ r. ⌜ r ≡ pairOf number ⌝ }
+{
+    (number / 10 % 10) as u8 * 16 + (number % 10) as u8
+}
+
+// A mark's place in the status byte, where it is set.
+fn weigh(mark: bool, place: u8) -> u8
+    ensures { λ r. ⌜ r ≡ onAt mark place ⌝ }
+    ensures small { λ r. ⌜ r ≤ place ⌝ }
+{
+    if mark { place } else { 0 }
+}
+
+// The number and the point lie in their ranges: asked wherever a reading is used.
+fn is_legal(reading: Reading) -> bool
+    ensures { λ r. ⌜ r ≡ legal reading ⌝ }
+{
+    (reading.number <= LARGEST_NUMBER) & (reading.point <= LARGEST_POINT)
+}
+
+// Refusal 8 of either reading comes before anything else that a value may be refused for.
+fn are_legal(gross: Reading, net: Reading) -> bool
+    ensures { λ r. ⌜ r ≡ (legal gross && legal net) ⌝ }
+{
+    is_legal(gross) & is_legal(net)
+}
+
+// The status byte: the places of the marks that are set, and the point below them.
+fn status(reading: Reading) -> u8
+    requires { ⌜ reading .point ≤ 7 ⌝ }
+    ensures { λ r. ⌜ r ≡ statusOf reading ⌝ }
+{
+    let sign = weigh(reading.minus, MINUS);
+    let plain = weigh(reading.bit6, BIT6) + weigh(reading.bit5, BIT5);
+    let state = weigh(reading.settled, SETTLED) + weigh(reading.overload, OVERLOAD);
+    sign + plain + state + reading.point
+}
+
+// Tenths of a milligram in the last digit of a reading.
+fn step(point: u8) -> u64
+    requires { ⌜ point ≤ 7 ⌝ }
+    ensures { λ r. ⌜ r ≡ 10 ^ (7 - point) ⌝ }
+{
+    STEPS[point as usize]
+}
+
+// Widened before it is multiplied: the product passes 32 bits.
+fn widened(number: u32) -> u64
+    ensures { λ r. ⌜ r ≡ number ⌝ }
+{
+    number as u64
+}
+
+// The digits in tenths of a milligram, without the sign. The largest is 9,999,990,000,000.
+fn size_of(number: u32, point: u8) -> u64
+    requires { ⌜ (number ≤ 999999) × (point ≤ 7) ⌝ }
+    ensures { λ r. ⌜ r ≡ number * 10 ^ (7 - point) ⌝ }
+    ensures small { λ r. ⌜ r ≤ 9999990000000 ⌝ }
+{
+    widened(number) * step(point)
+}
+
+// A size with its sign; minus zero is 0.
+fn with_sign(minus: bool, size: u64) -> i64
+    requires { ⌜ size < 2 ^ 63 ⌝ }
+    ensures { λ r. ⌜ r ≡ signed minus size ⌝ }
+{
+    let tenths = size as i64;
+    if minus { -tenths } else { tenths }
+}
+
+// W0 W1 W2 CON to a reading, as the message layer and the log have them: four bytes of a longer slice.
+pub fn read_bytes(w0: u8, w1: u8, w2: u8, con: u8) -> Read
+    ensures { λ r. ⌜ r ≡ readOf w0 w1 w2 con ⌝ }
+{
+    if are_decimal(w0, w1, w2) {
+        let number = two_digits(w2) * 10000 + two_digits(w1) * 100 + two_digits(w0);
+        Read::Good(Reading {
+            minus: con / MINUS % 2 == 1,
+            number,
+            point: con % POINTS,
+            bit6: con / BIT6 % 2 == 1,
+            bit5: con / BIT5 % 2 == 1,
+            settled: con / SETTLED % 2 == 1,
+            overload: con / OVERLOAD % 2 == 1,
+        })
+    } else {
+        Read::Refused(Refusal::FieldOutside)
+    }
+}
+
+// A reading to its four bytes.
+pub fn to_bytes(reading: Reading) -> Packed
+    ensures { λ r. ⌜ r ≡ bytesOf reading ⌝ }
+{
+    if is_legal(reading) {
+        let number = reading.number;
+        Packed::Bytes {
+            w0: pair(number),
+            w1: pair(number / 100),
+            w2: pair(number / 10000),
+            con: status(reading),
+        }
+    } else {
+        Packed::Refused(Refusal::FieldOutside)
+    }
+}
+
+// The value of a reading: every user of a value goes through here.
+pub fn value_of(reading: Reading) -> Value
+    ensures { λ r. ⌜ r ≡ valueOf reading ⌝ }
+{
+    if is_legal(reading) {
+        let size = size_of(reading.number, reading.point);
+        Value::Tenths(with_sign(reading.minus, size))
+    } else {
+        Value::Refused(Refusal::FieldOutside)
+    }
+}
+
+// Gross less net, which may be negative. Neither reading is asked which of the two it is: it does not know.
+pub fn gross_less_net(gross: Reading, net: Reading) -> Value
+    ensures { λ r. ⌜ r ≡ differenceOf gross net ⌝ }
+{
+    if are_legal(gross, net) {
+        match value_of(gross) {
+            Value::Tenths(gross_tenths) => match value_of(net) {
+                Value::Tenths(net_tenths) => {
+                    let difference = gross_tenths - net_tenths;
+                    Value::Tenths(difference)
+                }
+                Value::Refused(why) => Value::Refused(why),
+            },
+            Value::Refused(why) => Value::Refused(why),
+        }
+    } else {
+        Value::Refused(Refusal::FieldOutside)
+    }
+}
