@@ -99,9 +99,40 @@ fed-told used reader (byte ∷ block) =
     step-told (taken reader byte .event) (taken reader byte .reader) (fedFrom (used + 1) (taken reader byte .reader) block) (used + 1) _ _ (told reader byte)
     (fed-told (used + 1) (taken reader byte .reader) block ∙ ap (λ (l : Listener). firstHeard l block) (joined reader byte))
 
+-- how far a block goes: on, and not past its end
+far : (event : Event) (later stopped : Fed) (most : ℕ) → later .used ≤ most → stopped .used ≤ most → unless event later stopped .used ≤ most
+far Nothing later stopped most l s = l
+far (Frame wire kept) later stopped most l s = s
+far (Refused why wire kept) later stopped most l s = s
+
+near : (event : Event) (later stopped : Fed) (least : ℕ) → least ≤ later .used → least ≤ stopped .used → least ≤ unless event later stopped .used
+near Nothing later stopped least l s = l
+near (Frame wire kept) later stopped least l s = s
+near (Refused why wire kept) later stopped least l s = s
+
+fed-inside : (used : ℕ) (reader : Reader) (block : List ℕ) → fedFrom used reader block .used ≤ used + length block
+unfolding fedFrom
+fed-inside used reader [] = omega arith
+fed-inside used reader (byte ∷ block) = far (taken reader byte .event) _ _ _ (omega (arith, fed-inside (used + 1) (taken reader byte .reader) block)) (omega arith)
+
+fed-forward : (used : ℕ) (reader : Reader) (block : List ℕ) → used ≤ fedFrom used reader block .used
+unfolding fedFrom
+fed-forward used reader [] = omega arith
+fed-forward used reader (byte ∷ block) = near (taken reader byte .event) _ _ _ (omega (arith, fed-forward (used + 1) (taken reader byte .reader) block)) (omega arith)
+
+fed-on : (reader : Reader) (block : List ℕ) → 0 < length block → 0 < fed reader block .used
+unfolding fedFrom
+fed-on reader [] h = absurd (omega arith)
+fed-on reader (byte ∷ block) h = near (taken reader byte .event) _ _ 1 (fed-forward 1 (taken reader byte .reader) block) (omega arith)
+
 -- the promise of a block, from its answer
 pub feeds : (reader : Reader) (block : List ℕ) {answered : Fed} → answered ≡ fed reader block → Feeds reader block answered
-feeds reader block e = record { answer = e; told = rw e (fed-told 0 reader block) }
+feeds reader block e = record {
+  answer = e;
+  told = rw e (fed-told 0 reader block);
+  inside = rw e (omega (arith, fed-inside 0 reader block));
+  forward = λ some. rw e (fed-on reader block some);
+}
 
 pub takes : (reader : Reader) (byte : ℕ) {answered : Taken} → answered ≡ taken reader byte → Takes reader byte answered
 takes reader byte e = record { answer = e; told = rw e (told reader byte) }

@@ -1,6 +1,6 @@
 -- 01, "The frame": "The reader takes one byte at a time, and its state is handed in by value and handed back." What a state stands for, and
 -- what it becomes: the paper's listener, with its kept bytes at the front of an array of 255.
-use Prim.Native.Nat.{ℕ, _+_}
+use Prim.Native.Nat.{ℕ, _+_, _≤_, _<_}
 use mathlib.Core.Path.{_≡_}
 use mathlib.Core.Bool.{cond}
 use mathlib.Core.List.{List, [], _∷_}
@@ -130,7 +130,9 @@ unfoldable pub firstHeard : Listener → List ℕ → Heard
 firstHeard listener [] = nothing
 firstHeard listener (byte ∷ bytes) = orElse (hear listener byte .event) (firstHeard (hear listener byte .next) bytes)
 
--- a promise: the whole answer of a block, and that the body of a frame just heard can be read from it
+-- a promise: the whole answer of a block, that the body of a frame just heard can be read from it, and that it came on, inside the block
 pub record Feeds (reader : Reader) (block : List ℕ) (answered : Fed) : Type 0 where
   pub answer : answered ≡ fed reader block
   pub told : heardAs (answered .event) (answered .reader .body) ≡ firstHeard (view reader) block
+  pub inside : answered .used ≤ length block
+  pub forward : 0 < length block → 0 < answered .used
