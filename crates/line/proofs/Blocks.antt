@@ -6,7 +6,7 @@ use mathlib.Core.Bool.{Bool, true, false, cond}
 use mathlib.Core.List.{List, [], _∷_, _++_}
 use native.Mathlib.Omega.{arith}
 use native.Mathlib.Numerals.{add-one}
-use borrow.Author.Tests.{ltb-true, ltb-false}
+use borrow.Author.Tests.{ltb-true, ltb-false, eq-eqb, ne-eqb}
 use lib.Dec.{ltb}
 use lib.ListN.{length, drop, getD, drop-of-length-le}
 use lib.Seq.{drop-cons}
@@ -15,12 +15,13 @@ use Rattle.line.specs.declared.places.Place.{Place}
 use Rattle.line.specs.declared.places.Moved.{Moved}
 use Rattle.line.specs.declared.places.Event.{Event}
 use Rattle.line.specs.declared.places.Event.the-variants.{Nothing, Frame, Refused}
+use Rattle.line.specs.declared.listening.Went.{Went}
 use Rattle.line.specs.declared.reading.Reader.{Reader}
 use Rattle.line.specs.declared.reading.Taken.{Taken}
 use Rattle.line.specs.declared.reading.Fed.{Fed}
 use Rattle.line.specs.Listener.{Heard, nothing, frame, refused, Listener, hear, fresh}
-use Rattle.line.specs.Readers.{listening, view, soundPlace, freshPlace, keptOf, movedOf, Keeps, heardAs, taken, unless, fedFrom, fed, orElse, firstHeard, Takes, Feeds}
-use Rattle.line.proofs.Joined.{joined, told}
+use Rattle.line.specs.Readers.{listening, view, soundPlace, freshPlace, keptOf, movedOf, Keeps, heardAs, taken, unless, fedFrom, fed, orElse, firstHeard, Takes, Feeds, fedLent, wentOf, Listens}
+use Rattle.line.proofs.Joined.{joined, told, step-length}
 
 -- ---- a state handed in with more than 255 kept
 
@@ -46,6 +47,10 @@ pub taken-is : (reader : Reader) (byte : ℕ) {moved : Moved} {left : List ℕ} 
     → _≡_ {A = Taken} (record { reader = record { place = moved .place; body = left }; event = moved .event }) (taken reader byte)
 unfolding taken
 taken-is reader byte keeps = λ i. record { reader = record { place = keeps .answer i .place; body = keeps .body i }; event = keeps .answer i .event }
+
+pub taken-full : (reader : Reader) (byte : ℕ) → length (reader .body) ≡ 255 → length (taken reader byte .reader .body) ≡ 255
+unfolding taken
+taken-full reader byte full = step-length (reader .place) (reader .body) byte full (record { answer = refl; body = refl })
 
 -- the reader that a reader handed in is treated as
 abbrev pub soundly : Reader → Reader
@@ -136,3 +141,66 @@ feeds reader block e = record {
 
 pub takes : (reader : Reader) (byte : ℕ) {answered : Taken} → answered ≡ taken reader byte → Takes reader byte answered
 takes reader byte e = record { answer = e; told = rw e (told reader byte) }
+
+-- ---- the same with the array lent
+
+abbrev pub standing : Place → List ℕ → Reader
+standing place body = record { place = place; body = body }
+
+lent-full : (place : Place) (block before : List ℕ) → length before ≡ 255 → fedLent place block before ≡ fed (standing place before) block
+unfolding fedLent
+lent-full place block before full = rw (eq-eqb (length before) 255 full)
+
+lent-other : (place : Place) (block before : List ℕ) → (length before ≡ 255 → ⊥)
+    → fedLent place block before ≡ record { reader = standing place before; event = Nothing; used = 0 }
+unfolding fedLent
+lent-other place block before other = rw (ne-eqb (length before) 255 other)
+
+-- a fed reader's array is as long as before
+fed-full : (used : ℕ) (reader : Reader) (block : List ℕ) → length (reader .body) ≡ 255 → length (fedFrom used reader block .reader .body) ≡ 255
+unfolding fedFrom
+fed-full used reader [] full = full
+fed-full used reader (byte ∷ block) full =
+    let after = taken-full reader byte full in
+    long (taken reader byte .event) _ _ (fed-full (used + 1) (taken reader byte .reader) block after) after
+  where
+    long : (event : Event) (later stopped : Fed) → length (later .reader .body) ≡ 255 → length (stopped .reader .body) ≡ 255 → length (unless event later stopped .reader .body) ≡ 255
+    long Nothing later stopped l s = l
+    long (Frame wire kept) later stopped l s = s
+    long (Refused why wire kept) later stopped l s = s
+
+-- the promise, from an answer where the array is full, and where it could not be
+pub listens : (place : Place) (block before : List ℕ) (next : Place) (event : Event) (used : ℕ) (left : List ℕ) → length before ≡ 255
+    → _≡_ {A = Fed} (record { reader = standing next left; event = event; used = used }) (fed (standing place before) block)
+    → Listens place block before (record { place = next; event = event; used = used }) left
+listens place block before next event used left full e =
+    let reader = standing place before in
+    let lent = e ∙ sym (lent-full place block before full) in
+    let promise = feeds reader block e in
+    record {
+      answer = ap wentOf lent;
+      body = ap (λ (f : Fed). f .reader .body) lent;
+      told = λ _. promise .told;
+      inside = promise .inside;
+      forward = λ _. promise .forward;
+      full = λ _. ap (λ (f : Fed). length (f .reader .body)) e ∙ fed-full 0 reader block full;
+    }
+
+pub unlent : (place : Place) (block before : List ℕ) → (length before ≡ 255 → ⊥) → Listens place block before (record { place = place; event = Nothing; used = 0 }) before
+unlent place block before other =
+    let lent = sym (lent-other place block before other) in
+    record {
+      answer = ap wentOf lent;
+      body = ap (λ (f : Fed). f .reader .body) lent;
+      told = λ full. absurd (other full);
+      inside = omega arith;
+      forward = λ full. absurd (other full);
+      full = λ full. absurd (other full);
+    }
+
+-- a block heard with the array lent is a block fed
+pub fed-lent : (reader : Reader) (block : List ℕ) {went : Went} {left : List ℕ} → length (reader .body) ≡ 255 → Listens (reader .place) block (reader .body) went left
+    → _≡_ {A = Fed} (record { reader = standing (went .place) left; event = went .event; used = went .used }) (fed reader block)
+fed-lent reader block full l =
+    (λ i. record { reader = standing (l .answer i .place) (l .body i); event = l .answer i .event; used = l .answer i .used })
+    ∙ lent-full (reader .place) block (reader .body) full

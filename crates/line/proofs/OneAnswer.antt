@@ -4,10 +4,12 @@ use Prim.Native.Nat.{ℕ}
 use mathlib.Core.Path.{_≡_}
 use mathlib.Core.List.{List}
 use Rattle.refusal.proofs.OneAnswer.{one}
+use Rattle.line.specs.declared.places.Place.{Place}
+use Rattle.line.specs.declared.listening.Went.{Went}
 use Rattle.line.specs.declared.reading.Reader.{Reader}
 use Rattle.line.specs.declared.reading.Taken.{Taken}
 use Rattle.line.specs.declared.reading.Fed.{Fed}
-use Rattle.line.specs.Readers.{Takes, Feeds, freshReader}
+use Rattle.line.specs.Readers.{Takes, Feeds, Listens, freshReader}
 
 pub new-one : (a b : Reader) → a ≡ freshReader → b ≡ freshReader → a ≡ b
 new-one a b = one
@@ -17,3 +19,6 @@ take-one reader byte a b p q = one (p .answer) (q .answer)
 
 pub feed-one : (reader : Reader) (block : List ℕ) (a b : Fed) → Feeds reader block a → Feeds reader block b → a ≡ b
 feed-one reader block a b p q = one (p .answer) (q .answer)
+
+pub listen-one : (place : Place) (block before : List ℕ) (a b : Went) (l m : List ℕ) → Listens place block before a l → Listens place block before b m → (a ≡ b) × (l ≡ m)
+listen-one place block before a b l m p q = (one (p .answer) (q .answer), one (p .body) (q .body))

@@ -5,7 +5,7 @@ use mathlib.Core.Path.{_≡_}
 use mathlib.Core.Bool.{cond}
 use mathlib.Core.List.{List, [], _∷_}
 use lib.ListN.{length, take, replicate}
-use lib.Dec.{ltb}
+use lib.Dec.{ltb, eqb}
 use Rattle.room.specs.Laying.{over}
 use Rattle.line.specs.declared.places.WirePlace.{WirePlace}
 use Rattle.line.specs.declared.places.BodyPlace.{BodyPlace}
@@ -15,6 +15,7 @@ use Rattle.line.specs.declared.places.Event.{Event}
 use Rattle.line.specs.declared.places.Event.the-variants.{Nothing, Frame, Refused}
 use Rattle.line.specs.declared.places.Place.{Place}
 use Rattle.line.specs.declared.places.Moved.{Moved}
+use Rattle.line.specs.declared.listening.Went.{Went}
 use Rattle.line.specs.declared.reading.Reader.{Reader}
 use Rattle.line.specs.declared.reading.Taken.{Taken}
 use Rattle.line.specs.declared.reading.Fed.{Fed}
@@ -136,3 +137,22 @@ pub record Feeds (reader : Reader) (block : List ℕ) (answered : Fed) : Type 0 
   pub told : heardAs (answered .event) (answered .reader .body) ≡ firstHeard (view reader) block
   pub inside : answered .used ≤ length block
   pub forward : 0 < length block → 0 < answered .used
+
+-- ---- the same, with the array lent beside the place
+
+-- an array of 255 bytes has 255: where a list had not, nothing would be taken
+unfoldable pub fedLent : Place → List ℕ → List ℕ → Fed
+fedLent place block before =
+    cond (eqb (length before) 255) (fed (record { place = place; body = before }) block)
+    (record { reader = record { place = place; body = before }; event = Nothing; used = 0 })
+
+abbrev pub wentOf : Fed → Went
+wentOf answer = record { place = answer .reader .place; event = answer .event; used = answer .used }
+
+pub record Listens (place : Place) (block before : List ℕ) (answered : Went) (left : List ℕ) : Type 0 where
+  pub answer : answered ≡ wentOf (fedLent place block before)
+  pub body : left ≡ fedLent place block before .reader .body
+  pub told : length before ≡ 255 → heardAs (answered .event) left ≡ firstHeard (listening place before) block
+  pub inside : answered .used ≤ length block
+  pub forward : length before ≡ 255 → 0 < length block → 0 < answered .used
+  pub full : length before ≡ 255 → length left ≡ 255

@@ -1,7 +1,9 @@
 // The line: a reader that takes one byte at a time, or a block, and gives events.
+mod listening;
 mod places;
 mod reading;
 
+pub use listening::Went;
 pub use places::BodyPlace;
 pub use places::Event;
 pub use places::Phase;

@@ -53,36 +53,15 @@ impl Reader {
     pub fn feed(mut self, block: &[u8]) -> Fed
         ensures { λ r. ⌜ Feeds self (now (block .entry)) r ⌝ }
     {
-        if block.len() == 0 {
-            return Fed {
-                reader: self,
-                event: Event::Nothing,
-                used: 0,
-            };
-        }
-        let handed = self.place;
-        let mut place = handed.sound();
-        let mut used = 0;
-        while used < block.len() {
-            let moved = place.step(block[used], &mut self.body);
-            place = moved.place;
-            used += 1;
-            let event = moved.event;
-            if let Event::Nothing = event {
-                continue;
-            }
-            self.place = place;
-            return Fed {
-                reader: self,
-                event,
-                used,
-            };
-        }
-        self.place = place;
+        let place = self.place;
+        let went = place.listen(block, &mut self.body);
+        let next = went.place;
+        let event = went.event;
+        self.place = next;
         Fed {
             reader: self,
-            event: Event::Nothing,
-            used,
+            event,
+            used: went.used,
         }
     }
 }

@@ -28,18 +28,19 @@ fn is_refused(event: Event) -> bool {
     }
 }
 
-// A block to its end, event by event.
+// A block to its end, event by event, the reader taken apart once.
 fn hear(tally: Tally, block: &[u8]) -> Tally {
     let mut reader = tally.reader;
+    let mut place = reader.place;
     let mut frames = tally.frames;
     let mut refused = tally.refused;
     let mut at = 0;
     while at < block.len() {
-        let fed = reader.feed(&block[at..]);
-        let next = fed.reader;
-        reader = next;
-        let event = fed.event;
-        at += fed.used;
+        let went = place.listen(&block[at..], &mut reader.body);
+        let next = went.place;
+        place = next;
+        let event = went.event;
+        at += went.used;
         if is_frame(event) {
             frames = std::num::wrapping_add_u64(frames, 1);
         }
@@ -47,6 +48,7 @@ fn hear(tally: Tally, block: &[u8]) -> Tally {
             refused = std::num::wrapping_add_u64(refused, 1);
         }
     }
+    reader.place = place;
     Tally {
         reader,
         frames,

@@ -1,123 +1,26 @@
--- `line::Reader::feed` meets its contract: a block is fed byte by byte, up to and with the first event or to its end.
--- Why: what the rest of the block will give the reader as it stands is what the whole block gives the reader handed in.
-use Rattle.line.specs.declared.reading.Reader.{Reader}
-use Rattle.line.specs.declared.places.Event.{Event}
-use Rattle.line.proofs.places.Event.{the-type}
-use Rattle.line.specs.declared.places.Event.the-variants.{Nothing}
-use Rattle.line.specs.declared.places.Place.{Place}
-use mathlib.Core.List.{List, [], _∷_}
-use mathlib.Core.Logic.{⊎-elim}
-use types.Run.{OneOf}
-use denote.Enum.Declared.{tagOf}
-use Prim.Native.Nat.{ℕ, _≤_, _<_, _-_}
-use mathlib.Core.Path.{_≡_, _∙_, refl, sym}
-use native.Mathlib.Omega.{arith}
+-- `line::Reader::feed` meets its contract: a block is heard with the reader's own array lent.
+-- Why: heard with the array lent, a block gives what it gives fed.
+use lib.ListN.{length}
+use mathlib.Core.Path.{_≡_}
+use Rattle.line.proofs.Blocks.{feeds, fed-lent}
 use borrow.Author.Needs.{needs}
-use lib.ListN.{length, drop, getD}
-use Rattle.line.specs.Readers.{fedFrom, soundPlace}
-use Rattle.line.proofs.Joined.{step-few, step-length}
-use Rattle.line.proofs.Blocks.{sound-few, fed-sound, taken-is, next-turn, stop, at-end, feeds, soundly}
 use Rattle.line.proofs.reading.Reader.feed.Statement.{statement}
 use Rattle.line.proofs.reading.Reader.feed.Tie as tie
 use Rattle.line.proofs.reading.Reader.feed.Reads as reads
 use Rattle.line.proofs.reading.Reader.feed.Lts as lts
-use Rattle.line.proofs.places.Place.sound.Reads as sound-reads
-use Rattle.line.proofs.places.Place.step.Reads as step-reads
+use Rattle.line.proofs.places.Place.listen.Reads as listen-reads
 
--- a reader as it stands in the loop
-abbrev standing : Place → List ℕ → Reader
-standing place body = record { place = place; body = body }
+-- the reader's own array has 255 bytes
+full : (c : tie.After-next) → length (c .before .before .before .before .before .args .t1 .body) ≡ 255
+full c = search needs
 
--- an arm for the other events was taken: it was not Nothing
-spoken : (event : Event) → OneOf (1 ∷ 2 ∷ []) (tagOf the-type event) → event ≡ Nothing → ⊥
-spoken event arm silent =
-    ⊎-elim (λ (e : _≡_ {A = ℕ} 0 1). omega arith) (λ (e : _≡_ {A = ℕ} 0 2). omega arith) (rw silent at arm)
+listen-requires : tie.Need-listen-requires
+listen-requires c κs = search needs
 
--- the reader that the loop begins with gives what the reader handed in gives
-whole : (reader : Reader) (block : List ℕ) {place : Place} → place ≡ soundPlace (reader .place) → 0 < length block
-    → fedFrom 0 (standing place (reader .body)) block ≡ fedFrom 0 reader block
-whole reader block e h = rw e (fed-sound reader block h)
-
-abbrev Inv-loop : tie.InvT-loop
-Inv-loop block self₀ place₀ used₀ self place used =
-    (used ≤ length block) × (place .kept .0 ≤ 255) × (length (self .body) ≡ 255)
-    × (fedFrom used (record { place = place; body = self .body }) (drop used block) ≡ fedFrom 0 (record { place = place₀; body = self₀ .body }) block)
-
-abbrev μ-loop : tie.MeasureT-loop
-μ-loop block self₀ place₀ used₀ self place used = length block - used
-
-returns : tie.Need-returns Inv-loop μ-loop
-returns c = feeds (c .before .before .args .t1) (c .before .before .args .block .now) (at-end (c .before .before .args .block .now) (c .before .before .args .t1) 0 (omega (arith, c .if1 .taken)))
-
-sound-requires : tie.Need-sound-requires Inv-loop μ-loop
-sound-requires c κs = tt
-
-loop-holds : tie.Need-loop-holds Inv-loop μ-loop
-loop-holds c = (omega arith, rw (c .sound .ensures) (sound-few (c .before .before .before .before .args .t1 .place)), search needs, refl)
-
-shared-slice-read-step : tie.Need-shared-slice-read-step Inv-loop μ-loop
-shared-slice-read-step c = omega arith
-
-step-requires : tie.Need-step-requires Inv-loop μ-loop
-step-requires c κs = (c .before .before .before .loop .inv .1, c .before .before .before .loop .inv .2)
-
-add-used : tie.Need-add-used Inv-loop μ-loop
-add-used c = omega arith
-
-enum-told : tie.Need-enum-told Inv-loop μ-loop
-enum-told c = search needs
-
-loop-less : tie.Need-loop-less Inv-loop μ-loop
-loop-less c = omega arith
-
-loop-again : tie.Need-loop-again Inv-loop μ-loop
-loop-again c =
-    let at = c .before .before .before .before .before .before .before in
-    let block = c .before .before .before .before .before .before .before .before .before .before .before .before .args .block .now in
-    let byte = getD block (at .loop .used) 0 in
-    let reader = standing (at .loop .place) (at .loop .self .body) in
-    let step = c .before .before .before .step .ensures in (
-      omega arith,
-      step-few (at .loop .place) (at .loop .self .body) byte step,
-      step-length (at .loop .place) (at .loop .self .body) byte (at .loop .inv .2) step,
-      next-turn block reader (at .loop .used) (omega arith) (taken-is reader byte step) (c .enum-told .given .1) ∙ at .loop .inv .3,
-    )
-
-returns-2 : tie.Need-returns-2 Inv-loop μ-loop
-returns-2 c =
-    let at = c .before .before .before .before .before .before in
-    let start = c .before .before .before .before .before .before .before .before .before .before .before in
-    let block = start .args .block .now in
-    let reader = standing (at .loop .place) (at .loop .self .body) in
-    let step = c .before .before .step .ensures in
-    let byte = getD block (at .loop .used) 0 in
-    feeds (start .args .t1) block
-    (stop block reader (at .loop .used) (omega arith) (taken-is reader byte step) (spoken _ (c .match .keys2))
-    ∙ at .loop .inv .3 ∙ whole (start .args .t1) block (c .before .before .before .before .before .before .before .sound .ensures) (omega arith))
-
-returns-3 : tie.Need-returns-3 Inv-loop μ-loop
-returns-3 c =
-    let at = c .before in
-    let start = c .before .before .before .before .before .before in
-    let block = start .args .block .now in
-    feeds (start .args .t1) block
-    (at-end block (standing (at .loop .place) (at .loop .self .body)) (at .loop .used) (omega arith)
-    ∙ at .loop .inv .3 ∙ whole (start .args .t1) block (c .before .before .sound .ensures) (omega arith))
+returns : tie.Need-returns
+returns c =
+    let start = c .before .before .before .before .before in
+    feeds (start .args .t1) (start .args .block .now) (fed-lent (start .args .t1) (start .args .block .now) (full c) (c .before .listen .ensures))
 
 pub feed-spec : {M : Type 1} → statement M
-feed-spec =
-    tie.close
-    (tie.spec
-    Inv-loop
-    μ-loop
-    returns
-    sound-requires
-    loop-holds
-    shared-slice-read-step
-    step-requires
-    add-used
-    enum-told
-    loop-less
-    loop-again
-    returns-2
-    returns-3)
+feed-spec = tie.close (tie.spec listen-requires returns)
