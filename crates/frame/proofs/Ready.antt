@@ -25,7 +25,8 @@ use Rattle.frame.specs.declared.writing.Needed.the-variants as needed-as
 use Rattle.frame.specs.Addresses.{legal}
 use Rattle.frame.specs.Body.{bodyOf}
 use Rattle.frame.specs.Stuffing.{framed, countFF, needed}
-use Rattle.frame.specs.Writing.{judgedFields, neededFor, needing, judgedWrite, writtenFrame, Prepared}
+use Rattle.frame.specs.Writing.{judgedFields, neededFor, needing, judgedWrite, writtenFrame}
+use Rattle.frame.specs.Preparing.{Prepared}
 use Rattle.frame.proofs.Pieces.{read-back}
 use Rattle.frame.proofs.Stuffing.{framed-length}
 

@@ -1,4 +1,5 @@
 pub mod Addresses
 pub mod Body
+pub mod Preparing
 pub mod Stuffing
 pub mod Writing

@@ -1,7 +1,6 @@
 -- 01, "What the answers mean": "Frame writing is given address, code and data bytes, works out the check itself, and judges 5, 2, 9."
 use Prim.Native.Nat.{ℕ}
 use mathlib.Core.Bool.{not}
-use mathlib.Core.Path.{_≡_}
 use mathlib.Core.List.{List}
 use lib.ListN.{length}
 use lib.Dec.{ltb}
@@ -9,7 +8,6 @@ use Rattle.refusal.specs.declared.Refusal.the-variants.{AddressIllegal, BodyLon
 use Rattle.refusal.specs.declared.Verdict.{Verdict}
 use Rattle.refusal.specs.declared.Verdict.the-variants.{Good, Refused}
 use Rattle.refusal.specs.Numbers.{refuseIf}
-use Rattle.room.specs.Laying.{over}
 use Rattle.room.specs.Writing.{Left, wrote}
 use Rattle.frame.specs.declared.addresses.Address.{Address}
 use Rattle.frame.specs.declared.writing.Needed.{Needed}
@@ -43,8 +41,3 @@ judgedWrite address code data′ room =
 -- the frame in the first bytes of the room, every other byte as it stood; refused, every byte as it stood
 unfoldable pub writtenFrame : Address → ℕ → List ℕ → List ℕ → Left
 writtenFrame address code data′ room = wrote (judgedWrite address code data′ room) (framed (bodyOf address code data′)) room
-
--- a body made ready in some room of our own, together with the room its frame will need
-pub record Prepared (address : Address) (code : ℕ) (data′ empty : List ℕ) (answered : Needed) (left : List ℕ) : Type 0 where
-  pub answer : answered ≡ neededFor address code data′
-  pub body : judgedFields address code data′ Good ≡ Good → left ≡ over (bodyOf address code data′) empty

@@ -18,7 +18,8 @@ ghost use Rattle.room.specs.Writing.{Leaves};
 ghost use Rattle.frame.specs.Addresses.{addressBytes, addressLength};
 ghost use Rattle.frame.specs.Body.{unchecked, bodyOf};
 ghost use Rattle.frame.specs.Stuffing.{stuffedByte, stuffed, framed, countFF, needed};
-ghost use Rattle.frame.specs.Writing.{Prepared, neededFor, writtenFrame};
+ghost use Rattle.frame.specs.Writing.{neededFor, writtenFrame};
+ghost use Rattle.frame.specs.Preparing.{Prepared};
 
 // The room that a frame needs, or the refusal that its address or its length earns.
 pub enum Needed {

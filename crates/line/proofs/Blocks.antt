@@ -20,7 +20,8 @@ use Rattle.line.specs.declared.reading.Reader.{Reader}
 use Rattle.line.specs.declared.reading.Taken.{Taken}
 use Rattle.line.specs.declared.reading.Fed.{Fed}
 use Rattle.line.specs.Listener.{Heard, nothing, frame, refused, Listener, hear, fresh}
-use Rattle.line.specs.Readers.{listening, view, soundPlace, freshPlace, keptOf, movedOf, Keeps, heardAs, taken, unless, fedFrom, fed, orElse, firstHeard, Takes, Feeds, fedLent, wentOf, Listens}
+use Rattle.line.specs.Readers.{listening, view, freshPlace, keptOf, heardAs, taken, unless, fedFrom, fed, orElse, firstHeard, Takes, Feeds, fedLent, wentOf, Listens}
+use Rattle.line.specs.Steps.{soundPlace, movedOf, Keeps}
 use Rattle.line.proofs.Joined.{joined, told, step-length}
 
 -- ---- a state handed in with more than 255 kept

@@ -20,7 +20,8 @@ use Rattle.line.specs.declared.places.Place.{Place}
 use Rattle.line.specs.declared.places.Moved.{Moved}
 use Rattle.line.specs.declared.reading.Reader.{Reader}
 use Rattle.line.specs.Listener.{State, seeking, delimited, inside, held, Heard, nothing, frame, refused, Listener, Step, step, keep, ended, tick, hearIn, hear, fresh}
-use Rattle.line.specs.Readers.{stateOf, listening, view, phaseOf, keptOf, placeOf, eventOf, heardAs, taken, Keeps}
+use Rattle.line.specs.Readers.{stateOf, listening, view, phaseOf, keptOf, placeOf, eventOf, heardAs, taken}
+use Rattle.line.specs.Steps.{Keeps}
 
 -- what a step's array and count can hold: few kept bytes, and the body of a frame just heard
 Fine : List ℕ → Step → Type 0

@@ -19,7 +19,8 @@ use Rattle.line.specs.declared.places.Phase.the-variants.{Seeking, Insid
 use Rattle.line.specs.declared.places.Event.the-variants.{Nothing, Frame, Refused}
 use Rattle.line.specs.declared.places.Moved.{Moved}
 use Rattle.line.specs.Listener.{keep, ended}
-use Rattle.line.specs.Readers.{Keeps, eventOf}
+use Rattle.line.specs.Readers.{eventOf}
+use Rattle.line.specs.Steps.{Keeps}
 
 module _ (kept byte wire : ℕ) (body : List ℕ) where
   -- the kept bytes laid over the array are the array

@@ -15,7 +15,8 @@ use Rattle.line.specs.declared.places.Event.the-variants.{Nothing, Refus
 use Rattle.line.specs.declared.places.Place.{Place}
 use Rattle.line.specs.declared.places.Moved.{Moved}
 use Rattle.line.specs.Listener.{seeking, delimited, inside, held, keep, ended, tick, hearIn, hear}
-use Rattle.line.specs.Readers.{Keeps, stateOf, listening, eventOf}
+use Rattle.line.specs.Readers.{stateOf, listening, eventOf}
+use Rattle.line.specs.Steps.{Keeps}
 use Rattle.line.proofs.Keeping.{over-kept}
 
 -- the step of a place with at most 255 kept is the step of its phase

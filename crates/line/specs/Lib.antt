@@ -1,2 +1,3 @@
 pub mod Listener
 pub mod Readers
+pub mod Steps

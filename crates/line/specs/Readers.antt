@@ -14,7 +14,6 @@ use Rattle.line.specs.declared.places.Phase.the-variants.{Seeking, Delim
 use Rattle.line.specs.declared.places.Event.{Event}
 use Rattle.line.specs.declared.places.Event.the-variants.{Nothing, Frame, Refused}
 use Rattle.line.specs.declared.places.Place.{Place}
-use Rattle.line.specs.declared.places.Moved.{Moved}
 use Rattle.line.specs.declared.listening.Went.{Went}
 use Rattle.line.specs.declared.reading.Reader.{Reader}
 use Rattle.line.specs.declared.reading.Taken.{Taken}
@@ -66,9 +65,6 @@ eventOf nothing = Nothing
 eventOf (frame wire kept body) = Frame (record { 0 = wire }) (record { 0 = kept })
 eventOf (refused why wire kept) = Refused why (record { 0 = wire }) (record { 0 = kept })
 
-abbrev pub movedOf : Step → Moved
-movedOf step = record { place = placeOf (step .next); event = eventOf (step .event) }
-
 -- one byte: the listener's step, its kept bytes at the front of the array, every other byte of it as it stood
 unfoldable pub taken : Reader → ℕ → Taken
 taken reader byte =
@@ -111,15 +107,6 @@ freshPlace = placeOf fresh
 
 abbrev pub freshReader : Reader
 freshReader = record { place = freshPlace; body = replicate 255 0 }
-
--- the place that a place handed in is treated as
-abbrev pub soundPlace : Place → Place
-soundPlace place = cond (ltb 255 (place .kept .0)) freshPlace place
-
--- a promise: a step, as a place with its event, and the array beside it
-pub record Keeps (step : Step) (before : List ℕ) (answered : Moved) (left : List ℕ) : Type 0 where
-  pub answer : answered ≡ movedOf step
-  pub body : left ≡ over (keptOf (step .next .state)) before
 
 -- the first event that the paper's listener gives on a list of bytes
 abbrev pub orElse : Heard → Heard → Heard

@@ -8,7 +8,8 @@ ghost use Prim.Native.Nat.{_≤_};
 ghost use lib.ListN.{length, take};
 ghost use Rattle.frame.specs.Body.{judged};
 ghost use Rattle.line.specs.Listener.{keep, ended, hear};
-ghost use Rattle.line.specs.Readers.{Keeps, eventOf, listening, freshPlace, soundPlace};
+ghost use Rattle.line.specs.Readers.{eventOf, listening, freshPlace};
+ghost use Rattle.line.specs.Steps.{Keeps, soundPlace};
 
 // Bytes taken since the reader started, modulo 2^64, up to and including the byte that gave the event.
 pub struct WirePlace(pub u64);

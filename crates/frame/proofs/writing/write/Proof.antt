@@ -2,7 +2,7 @@
 -- Why: what was made ready tells 5 and 2 and the room needed; the body there is the one whose frame is put.
 use Rattle.frame.proofs.Anatomy.{body-length as size}
 use Rattle.frame.specs.declared.writing.Needed.the-variants.{Bytes}
-use Rattle.frame.specs.Writing.{Prepared}
+use Rattle.frame.specs.Preparing.{Prepared}
 use Rattle.frame.specs.Body.{bodyOf}
 use lib.ListN.{length, take, replicate}
 use native.Mathlib.Nat.{sub-zero}

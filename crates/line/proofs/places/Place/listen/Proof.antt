@@ -14,7 +14,8 @@ use Rattle.line.specs.declared.places.Event.{Event}
 use Rattle.line.proofs.places.Event.{the-type}
 use Rattle.line.specs.declared.places.Event.the-variants.{Nothing}
 use Rattle.line.specs.declared.reading.Reader.{Reader}
-use Rattle.line.specs.Readers.{fedFrom, soundPlace}
+use Rattle.line.specs.Readers.{fedFrom}
+use Rattle.line.specs.Steps.{soundPlace}
 use Rattle.line.proofs.Joined.{step-few, step-length}
 use Rattle.line.proofs.Blocks.{sound-few, fed-sound, taken-is, next-turn, stop, at-end, standing, listens, unlent}
 use Rattle.line.proofs.places.Place.listen.Statement.{statement}
