@@ -1,2 +1,3 @@
+pub mod Messages
 pub mod Reading
 pub mod Wire

@@ -1,0 +1,138 @@
+-- Shown: demand 2 at the message layer: written messages read back, accepted ones are written back, and 6, 7, 8 refuse as the table says.
+-- Why: reading and writing judge code and data by one verdict, a body is put together and taken apart without loss, and a frame is heard whole.
+use Prim.Native.Nat.{ℕ, _≤_}
+use mathlib.Core.Path.{_≡_, refl, ap}
+use mathlib.Core.Bool.{Bool, true, false, not}
+use mathlib.Core.List.{List}
+use native.Mathlib.Omega.{arith}
+use lib.Dec.{ltb, lit≤}
+use lib.ListN.{length}
+use lib.Seq.{take-at}
+use Rattle.refusal.specs.declared.Refusal.{Refusal}
+use Rattle.refusal.specs.declared.Refusal.the-variants.{BodyLong, CodeUnknown, LengthWrong, FieldOutside, RoomShort}
+use Rattle.refusal.specs.declared.Verdict.{Verdict}
+use Rattle.refusal.specs.declared.Verdict.the-variants.{Good, Refused}
+use Rattle.refusal.specs.Numbers.{numberOf, verdictNumber, refuseIf}
+use Rattle.room.specs.Writing.{wrote}
+use Rattle.frame.specs.Addresses.{addressIn}
+use Rattle.frame.specs.Body.{bodyOf, codeIn, dataIn}
+use Rattle.frame.specs.Stuffing.{framed, needed}
+use Rattle.message.specs.declared.table.Role.{Role}
+use Rattle.message.specs.declared.reading.Message.{Message}
+use Rattle.message.specs.Table.{rowOf, inTable}
+use Rattle.message.specs.Lengths.{lengthOf, lengthRight}
+use Rattle.message.specs.Fields.{fieldsRight}
+use Rattle.message.specs.Judging.{andThen, judgedData, judgedMessage}
+use Rattle.message.specs.Reading.{messageOf, judgedBody, receiving, readMessage, verdictOf}
+use Rattle.message.specs.Writing.{judgedMessageWrite, writtenMessage}
+use Rattle.message.proofs.RoundTrip.{body-back, again, written-lent, read-back, data-stand}
+use Rattle.demands.specs.Messages.{bytesOf, WrittenReadsBack, AcceptedWritesBack, FirstToFail, AsTheTableSays, ReadingRefuses, lengthAndRoom, WritingRefuses}
+use Rattle.demands.proofs.Corollaries.{reads-back}
+
+-- ---- written, then read
+
+pub written-reads-back : WrittenReadsBack
+unfolding writtenMessage
+written-reads-back role address code data′ room good =
+    let body = bodyOf address code data′ in
+    let bytes : bytesOf (writtenMessage role address code data′ room) ≡ framed body = rw good (take-at (framed body) _ (length (framed body)) refl) in
+    record {
+      heard = rw bytes (reads-back body (written-lent role address code data′ room good));
+      message = read-back role address code data′ room good;
+      stand = data-stand role address code data′ room good;
+    }
+
+-- ---- read, then written
+
+pub accepted-writes-back : AcceptedWritesBack
+unfolding writtenMessage
+accepted-writes-back role body message all received =
+    let same = body-back role body message received all in
+    record {
+      same = same;
+      written = λ room enough. rw (again role body message received all room enough, same);
+    }
+
+-- ---- the three tests
+
+-- what is judged after them is none of 6, 7, 8
+abbrev Other : Verdict → Type 0
+Other after = (why : Refusal) → 6 ≤ numberOf why → numberOf why ≤ 8 → after ≡ Refused why → ⊥
+
+-- with 2 and 9, or with nothing
+after-length-and-room : (long short : Bool) → Other (refuseIf long BodyLong (refuseIf short RoomShort Good))
+after-length-and-room true short why low high e = omega (arith, ap verdictNumber e)
+after-length-and-room false true why low high e = omega (arith, ap verdictNumber e)
+after-length-and-room false false why low high e = omega (arith, ap verdictNumber e)
+
+chain : Bool → Bool → Bool → Verdict → Verdict
+chain known sized right after = refuseIf (not known) CodeUnknown (refuseIf (not sized) LengthWrong (refuseIf (not right) FieldOutside after))
+
+first-to-fail : (known sized right : Bool) (after : Verdict) → Other after → FirstToFail known sized right after (chain known sized right after)
+unfolding chain
+first-to-fail false sized right after other =
+    record { unknown = (λ e. refl, λ h. refl); wrong-length = (λ e. (cc, cc), λ h. cc); outside = (λ e. (cc, (cc, cc)), λ h. cc); passed = λ h. cc }
+first-to-fail true false right after other =
+    record { unknown = (λ e. cc, λ h. cc); wrong-length = (λ e. (refl, refl), λ h. refl); outside = (λ e. (cc, (cc, cc)), λ h. cc); passed = λ h. cc }
+first-to-fail true true false after other =
+    record { unknown = (λ e. cc, λ h. cc); wrong-length = (λ e. (cc, cc), λ h. cc); outside = (λ e. (refl, (refl, refl)), λ h. refl); passed = λ h. cc }
+first-to-fail true true true after other =
+    record {
+      unknown = (λ e. absurd (other CodeUnknown (lit≤ tt) (lit≤ tt) e), λ h. cc);
+      wrong-length = (λ e. absurd (other LengthWrong (lit≤ tt) (lit≤ tt) e), λ h. cc);
+      outside = (λ e. absurd (other FieldOutside (lit≤ tt) (lit≤ tt) e), λ h. cc);
+      passed = λ h. refl;
+    }
+
+-- the message's verdict with a judge behind it is such a chain
+judged-then : (role : Role) (code : ℕ) (data′ : List ℕ) (after : Verdict)
+    → andThen (judgedMessage role code data′) after
+    ≡ chain (inTable (rowOf role code)) (lengthRight (lengthOf (rowOf role code)) data′) (fieldsRight (rowOf role code) data′) after
+unfolding judgedMessage judgedData chain
+judged-then role code data′ after =
+    by-tests (inTable (rowOf role code)) (lengthRight (lengthOf (rowOf role code)) data′) (fieldsRight (rowOf role code) data′)
+  where
+    by-tests : (known sized right : Bool)
+        → andThen (refuseIf (not known) CodeUnknown (refuseIf (not sized) LengthWrong (refuseIf (not right) FieldOutside Good))) after
+        ≡ refuseIf (not known) CodeUnknown (refuseIf (not sized) LengthWrong (refuseIf (not right) FieldOutside after))
+    by-tests false sized right = refl
+    by-tests true false right = refl
+    by-tests true true false = refl
+    by-tests true true true = refl
+
+by-the-table : (role : Role) (code : ℕ) (data′ : List ℕ) (after : Verdict) → Other after
+    → AsTheTableSays role code data′ after (andThen (judgedMessage role code data′) after)
+by-the-table role code data′ after other = rw (judged-then role code data′ after) (first-to-fail _ _ _ after other)
+
+-- ---- reading, behind 2, 1, 4, 5
+
+then-nothing : (verdict : Verdict) (message : Message) → verdictOf (receiving verdict message) ≡ andThen verdict Good
+then-nothing Good message = refl
+then-nothing (Refused why) message = refl
+
+pub reading-refuses : ReadingRefuses
+unfolding readMessage judgedBody
+reading-refuses role body = record {
+  ahead = λ why refused. rw refused;
+  then = λ good.
+      rw (good, then-nothing (judgedMessage role (codeIn body) (dataIn body)) (messageOf role (addressIn body) (codeIn body) (dataIn body)))
+      (by-the-table role (codeIn body) (dataIn body) Good (after-length-and-room false false));
+}
+
+-- ---- writing, behind 5
+
+answered : (verdict : Verdict) (bytes room : List ℕ) → wrote verdict bytes room .answer .verdict ≡ verdict
+answered Good bytes room = refl
+answered (Refused why) bytes room = refl
+
+pub writing-refuses : WritingRefuses
+unfolding writtenMessage judgedMessageWrite
+writing-refuses role address code data′ room =
+    let body = bodyOf address code data′ in
+    let after = lengthAndRoom body room in
+    record {
+      ahead = λ illegal. rw illegal;
+      then = λ is-legal.
+          rw (is-legal, answered (andThen (judgedMessage role code data′) after) (framed body) room)
+          (by-the-table role code data′ after (after-length-and-room (ltb 255 (length body)) (ltb (length room) (needed body))));
+    }

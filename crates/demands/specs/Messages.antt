@@ -1,0 +1,96 @@
+-- Demand 2 at the message layer, over every role, address, code and data: what is written reads back as the same message; each message that
+-- is accepted gives back its own body bytes when written again with its own role, address, code and data; and a message is refused by 6, 7, 8
+-- exactly as the table says.
+use Prim.Native.Nat.{ℕ, _≤_}
+use mathlib.Core.Path.{_≡_}
+use mathlib.Core.Bool.{Bool, true, false}
+use mathlib.Core.List.{List, [], _∷_}
+use lib.Dec.{T, ltb}
+use lib.ListN.{length, take}
+use lib.Seq.{slice}
+use lib.Pow.{areBytes}
+use Rattle.refusal.specs.declared.Refusal.{Refusal}
+use Rattle.refusal.specs.declared.Refusal.the-variants.{AddressIllegal, BodyLong, CodeUnknown, LengthWrong, FieldOutside, RoomShort}
+use Rattle.refusal.specs.declared.Verdict.{Verdict}
+use Rattle.refusal.specs.declared.Verdict.the-variants.{Good, Refused}
+use Rattle.refusal.specs.Numbers.{refuseIf}
+use Rattle.room.specs.Writing.{Left, wrote}
+use Rattle.frame.specs.declared.addresses.Address.{Address}
+use Rattle.frame.specs.Addresses.{legal}
+use Rattle.frame.specs.Body.{bodyOf, judgedLent, codeIn, dataIn}
+use Rattle.frame.specs.Stuffing.{framed, needed}
+use Rattle.line.specs.Listener.{frame, fresh, events}
+use Rattle.message.specs.declared.table.Role.{Role}
+use Rattle.message.specs.declared.reading.Message.{Message}
+use Rattle.message.specs.declared.reading.Received.the-variants as received-as
+use Rattle.message.specs.Table.{rowOf, inTable}
+use Rattle.message.specs.Lengths.{lengthOf, lengthRight}
+use Rattle.message.specs.Fields.{fieldsRight}
+use Rattle.message.specs.Reading.{messageOf, readMessage, verdictOf}
+use Rattle.message.specs.Writing.{judgedMessageWrite, writtenMessage}
+
+-- ---- "what is written reads back as the same message"
+
+-- the bytes that a write answers for: the first of the room, as many as the answered length
+abbrev pub bytesOf : Left → List ℕ
+bytesOf left = take (left .answer .length) (left .room)
+
+-- some bytes are heard from fresh as one frame, whose body reads as a message with these parts
+pub record ReadsAs (role : Role) (address : Address) (code : ℕ) (data′ bytes : List ℕ) : Type 0 where
+  pub heard : events fresh bytes ≡ frame (needed (bodyOf address code data′)) (length (bodyOf address code data′)) (bodyOf address code data′) ∷ []
+  pub message : readMessage role (bodyOf address code data′) ≡ received-as.Message (messageOf role address code data′)
+  pub stand : slice (messageOf role address code data′ .from) (messageOf role address code data′ .to) (bodyOf address code data′) ≡ data′
+
+abbrev pub WrittenReadsBack : Type 0
+WrittenReadsBack =
+    (role : Role) (address : Address) (code : ℕ) (data′ room : List ℕ) → judgedMessageWrite role address code data′ room ≡ Good
+    → ReadsAs role address code data′ (bytesOf (writtenMessage role address code data′ room))
+
+-- ---- "each message that is accepted gives back its own body bytes when written again with its own role, address, code and data"
+
+pub record WrittenAgain (role : Role) (body : List ℕ) (message : Message) (data′ : List ℕ) : Type 0 where
+  pub same : bodyOf (message .address) (message .code) data′ ≡ body
+  pub written : (room : List ℕ) → needed body ≤ length room
+      → writtenMessage role (message .address) (message .code) data′ room ≡ wrote Good (framed body) room
+
+abbrev pub AcceptedWritesBack : Type 0
+AcceptedWritesBack =
+    (role : Role) (body : List ℕ) (message : Message) → T (areBytes body) → readMessage role body ≡ received-as.Message message
+    → WrittenAgain role body message (slice (message .from) (message .to) body)
+
+-- ---- "a message is refused by 6, 7, 8 exactly as the table says"
+
+-- a claim holds exactly where another does
+abbrev pub Where : Type 0 → Type 0 → Type 0
+Where claim other = (claim → other) × (other → claim)
+
+-- of three tests, the first that fails refuses: 6, 7, 8 in this order; where all three hold, what is judged after them decides
+pub record FirstToFail (known sized right : Bool) (after verdict : Verdict) : Type 0 where
+  pub unknown : Where (verdict ≡ Refused CodeUnknown) (known ≡ false)
+  pub wrong-length : Where (verdict ≡ Refused LengthWrong) ((known ≡ true) × (sized ≡ false))
+  pub outside : Where (verdict ≡ Refused FieldOutside) ((known ≡ true) × ((sized ≡ true) × (right ≡ false)))
+  pub passed : (known ≡ true) × ((sized ≡ true) × (right ≡ true)) → verdict ≡ after
+
+abbrev pub AsTheTableSays : Role → ℕ → List ℕ → Verdict → Verdict → Type 0
+AsTheTableSays role code data′ =
+    FirstToFail (inTable (rowOf role code)) (lengthRight (lengthOf (rowOf role code)) data′) (fieldsRight (rowOf role code) data′)
+
+-- reading, behind 2, 1, 4, 5; nothing comes after
+pub record ReadByTheTable (role : Role) (body : List ℕ) : Type 0 where
+  pub ahead : (why : Refusal) → judgedLent body ≡ Refused why → readMessage role body ≡ received-as.Refused why
+  pub then : judgedLent body ≡ Good → AsTheTableSays role (codeIn body) (dataIn body) Good (verdictOf (readMessage role body))
+
+abbrev pub ReadingRefuses : Type 0
+ReadingRefuses = (role : Role) (body : List ℕ) → ReadByTheTable role body
+
+-- writing, behind 5; 2 and 9 come after
+abbrev pub lengthAndRoom : List ℕ → List ℕ → Verdict
+lengthAndRoom body room = refuseIf (ltb 255 (length body)) BodyLong (refuseIf (ltb (length room) (needed body)) RoomShort Good)
+
+pub record WrittenByTheTable (role : Role) (address : Address) (code : ℕ) (data′ room : List ℕ) : Type 0 where
+  pub ahead : legal address ≡ false → writtenMessage role address code data′ room .answer .verdict ≡ Refused AddressIllegal
+  pub then : legal address ≡ true
+      → AsTheTableSays role code data′ (lengthAndRoom (bodyOf address code data′) room) (writtenMessage role address code data′ room .answer .verdict)
+
+abbrev pub WritingRefuses : Type 0
+WritingRefuses = (role : Role) (address : Address) (code : ℕ) (data′ room : List ℕ) → WrittenByTheTable role address code data′ room

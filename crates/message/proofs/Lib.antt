@@ -1,0 +1,6 @@
+pub mod Bytes
+pub mod Opening
+pub mod Order
+pub mod OneAnswer
+pub mod Examples
+pub mod RoundTrip

@@ -1,0 +1,21 @@
+-- Shown: each promise of this crate admits one answer, and a message write one room.
+-- Why: each is an equation with a definition; a write's has one for the answer and one for the room.
+use Prim.Native.Nat.{ℕ}
+use mathlib.Core.Path.{_≡_}
+use mathlib.Core.List.{List}
+use Rattle.refusal.proofs.OneAnswer.{one}
+use Rattle.room.specs.declared.Written.{Written}
+use Rattle.room.specs.Writing.{Leaves}
+use Rattle.room.proofs.OneAnswer.{leaves-one}
+use Rattle.frame.specs.declared.addresses.Address.{Address}
+use Rattle.message.specs.declared.table.Role.{Role}
+use Rattle.message.specs.declared.reading.Received.{Received}
+use Rattle.message.specs.Reading.{readMessage}
+use Rattle.message.specs.Writing.{writtenMessage}
+
+pub read-one : (role : Role) (body : List ℕ) (a b : Received) → a ≡ readMessage role body → b ≡ readMessage role body → a ≡ b
+read-one role body a b = one
+
+pub write-one : (role : Role) (address : Address) (code : ℕ) (data′ room : List ℕ) (a b : Written) (l m : List ℕ)
+    → Leaves (writtenMessage role address code data′ room) a l → Leaves (writtenMessage role address code data′ room) b m → (a ≡ b) × (l ≡ m)
+write-one role address code data′ room a b l m = leaves-one

@@ -1,0 +1,134 @@
+-- Shown: what the reader may answer once a body was opened and its code and data were judged is what the paper's order answers.
+-- Why: the parts of a good body are where its code and data stand, and a refusal stays the first one met.
+use Prim.Native.Nat.{ℕ, zero, suc, _+_, _-_, _≤_}
+use mathlib.Core.Path.{_≡_, _∙_, refl, sym, ap}
+use mathlib.Core.List.{List, [], _∷_}
+use native.Mathlib.Nat.{sub-zero, zero-sub, suc-sub-suc}
+use native.Mathlib.Omega.{arith}
+use borrow.Author.Tests.{ltb-false}
+use lib.Dec.{ltb}
+use lib.ListN.{length, take, drop}
+use lib.Seq.{slice, length-slice, take-nil, drop-nil}
+use Rattle.refusal.specs.declared.Refusal.{Refusal}
+use Rattle.refusal.specs.declared.Verdict.{Verdict}
+use Rattle.refusal.specs.declared.Verdict.the-variants.{Good, Refused}
+use Rattle.refusal.proofs.Verdicts.{test-passed, rest-passed}
+use Rattle.frame.specs.declared.bodies.Parts.{Parts}
+use Rattle.frame.specs.declared.bodies.Opened.the-variants as opened-as
+use Rattle.frame.specs.Addresses.{addressIn, addressLength}
+use Rattle.frame.specs.Body.{judged, judgedLent, codeIn, dataIn, partsOf, opening, openedBody}
+use Rattle.frame.proofs.Shortness.{address-inside, good-not-short}
+use Rattle.message.specs.declared.table.Role.{Role}
+use Rattle.message.specs.declared.meaning.What.{What}
+use Rattle.message.specs.declared.meaning.Told.the-variants as told-as
+use Rattle.message.specs.declared.reading.Message.{Message}
+use Rattle.message.specs.declared.reading.Received.the-variants as received-as
+use Rattle.message.specs.Judging.{judgedMessage, telling, told}
+use Rattle.message.specs.Reading.{messageOf, judgedBody, readMessage}
+
+-- ---- what an answer tells of its verdict
+
+opening-good : (verdict : Verdict) (p q : Parts) → opening verdict p ≡ opened-as.Parts q → (verdict ≡ Good) × (q ≡ p)
+opening-good Good p q e = (refl, cc)
+opening-good (Refused why) p q e = (cc, cc)
+
+opening-refused : (verdict : Verdict) (p : Parts) (why : Refusal) → opening verdict p ≡ opened-as.Refused why → verdict ≡ Refused why
+opening-refused Good p why e = cc
+opening-refused (Refused other) p why e = cc
+
+pub telling-good : (verdict : Verdict) (said what : What) → telling verdict said ≡ told-as.What what → (verdict ≡ Good) × (what ≡ said)
+telling-good Good said what e = (refl, cc)
+telling-good (Refused why) said what e = (cc, cc)
+
+pub telling-refused : (verdict : Verdict) (said : What) (why : Refusal) → telling verdict said ≡ told-as.Refused why → verdict ≡ Refused why
+telling-refused Good said why e = cc
+telling-refused (Refused other) said why e = cc
+
+-- ---- a good body
+
+pub lent-good : (body : List ℕ) → judgedLent body ≡ Good → judged body ≡ Good
+unfolding judgedLent
+lent-good body good = rest-passed (ltb 255 (length body)) _ _ good
+
+pub lent-most : (body : List ℕ) → judgedLent body ≡ Good → length body ≤ 255
+unfolding judgedLent
+lent-most body good = ltb-false 255 (length body) (test-passed (ltb 255 (length body)) _ _ good)
+
+-- where its data stand: behind the code, up to the check
+pub data-end : (body : List ℕ) → judgedLent body ≡ Good → addressLength (addressIn body) + 1 + length (dataIn body) ≡ length body - 1
+unfolding dataIn
+data-end body good =
+    let inside = address-inside body (good-not-short body (lent-good body good)) in
+    omega (arith, length-slice (addressLength (addressIn body) + 1) (length body - 1) body (omega arith))
+
+-- a part of a slice as the code takes it
+part : (from to : ℕ) (l : List ℕ) → take (to - from) (drop from l) ≡ slice from to l
+part zero to l = rw sub-zero
+part (suc from) zero l = rw zero-sub
+part (suc from) (suc to) [] = rw (drop-nil, take-nil)
+part (suc from) (suc to) (byte ∷ l) = rw suc-sub-suc (part from to l)
+
+-- ---- a body that was opened, or was not
+
+pub unopened : (role : Role) (body : List ℕ) (why : Refusal) → openedBody body ≡ opened-as.Refused why → received-as.Refused why ≡ readMessage role body
+unfolding openedBody readMessage judgedBody
+unopened role body why e = rw (opening-refused (judgedLent body) (partsOf body) why e)
+
+module _ (body : List ℕ) (parts : Parts) (opened : openedBody body ≡ opened-as.Parts parts) where
+  was-good : judgedLent body ≡ Good
+  unfolding openedBody
+  was-good = opening-good (judgedLent body) (partsOf body) parts opened .0
+
+  parts-are : parts ≡ partsOf body
+  unfolding openedBody
+  parts-are = opening-good (judgedLent body) (partsOf body) parts opened .1
+
+  from-is : parts .from ≡ addressLength (addressIn body) + 1
+  unfolding partsOf
+  from-is = ap (λ (p : Parts). p .from) parts-are
+
+  to-is : parts .to ≡ length body - 1
+  unfolding partsOf
+  to-is = ap (λ (p : Parts). p .to) parts-are
+
+  code-is : parts .code ≡ codeIn body
+  unfolding partsOf
+  code-is = ap (λ (p : Parts). p .code) parts-are
+
+  inside : addressLength (addressIn body) + 2 ≤ length body
+  inside = address-inside body (good-not-short body (lent-good body was-good))
+
+  -- its data stand in it
+  pub from-small : parts .from ≤ 255
+  from-small = omega (arith, from-is, inside, lent-most body was-good)
+
+  pub in-order : parts .from ≤ parts .to
+  in-order = omega (arith, from-is, to-is, inside)
+
+  pub ends-inside : parts .to ≤ length body
+  ends-inside = omega (arith, to-is, inside)
+
+  part-is : take (parts .to - parts .from) (drop (parts .from) body) ≡ dataIn body
+  unfolding dataIn
+  part-is = part (parts .from) (parts .to) body ∙ rw (from-is, to-is)
+
+  -- what is told of them is told of the body's code and data
+  module _ (role : Role) where
+    told-body : told role (parts .code) (parts .from) (take (parts .to - parts .from) (drop (parts .from) body))
+        ≡ told role (codeIn body) (addressLength (addressIn body) + 1) (dataIn body)
+    told-body = rw (part-is, code-is, from-is)
+
+    pub untold : (why : Refusal) → told role (parts .code) (parts .from) (take (parts .to - parts .from) (drop (parts .from) body)) ≡ told-as.Refused why
+        → received-as.Refused why ≡ readMessage role body
+    unfolding told readMessage judgedBody
+    untold why e =
+        let verdict = telling-refused (judgedMessage role (codeIn body) (dataIn body)) _ why (sym told-body ∙ e) in
+        rw (was-good, verdict)
+
+    pub message-told : (what : What) → told role (parts .code) (parts .from) (take (parts .to - parts .from) (drop (parts .from) body)) ≡ told-as.What what
+        → received-as.Message (record { address = parts .address; code = parts .code; from = parts .from; to = parts .to; what = what })
+        ≡ readMessage role body
+    unfolding told readMessage judgedBody messageOf partsOf
+    message-told what e =
+        let answer = telling-good (judgedMessage role (codeIn body) (dataIn body)) _ what (sym told-body ∙ e) in
+        rw (was-good, answer .0, answer .1, data-end body was-good, parts-are)

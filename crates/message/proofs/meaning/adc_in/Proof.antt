@@ -1,0 +1,67 @@
+-- `message::adc_in` meets its contract: five bytes as a number, low byte first.
+-- Why: the fifth stands 32 bits above the four before it.
+use mathlib.Core.Path.{ap}
+use native.Mathlib.Omega.{arith}
+use Rattle.message.specs.Meaning.{lowFirst}
+use Rattle.message.proofs.Bytes.{by-place, listed}
+use borrow.Author.Needs.{needs}
+use Rattle.message.proofs.meaning.adc_in.Statement.{statement}
+use Rattle.message.proofs.meaning.adc_in.Tie as tie
+use Rattle.message.proofs.meaning.adc_in.Reads as reads
+use Rattle.message.proofs.meaning.adc_in.Lts as lts
+use Rattle.message.proofs.meaning.wide.Reads as wide-reads
+use Rattle.message.proofs.meaning.word.Reads as word-reads
+
+shared-slice-read-word : tie.Need-shared-slice-read-word
+shared-slice-read-word c = search needs
+
+shared-slice-read-word-2 : tie.Need-shared-slice-read-word-2
+shared-slice-read-word-2 c = search needs
+
+shared-slice-read-word-3 : tie.Need-shared-slice-read-word-3
+shared-slice-read-word-3 c = search needs
+
+shared-slice-read-word-4 : tie.Need-shared-slice-read-word-4
+shared-slice-read-word-4 c = search needs
+
+word-requires : tie.Need-word-requires
+word-requires c κs = search needs
+
+wide-requires : tie.Need-wide-requires
+wide-requires c κs = search needs
+
+shared-slice-read-word-5 : tie.Need-shared-slice-read-word-5
+shared-slice-read-word-5 c = search needs
+
+word-requires-2 : tie.Need-word-requires-2
+word-requires-2 c κs = search needs
+
+wide-requires-2 : tie.Need-wide-requires-2
+wide-requires-2 c κs = search needs
+
+mul-result : tie.Need-mul-result
+mul-result c = search needs
+
+add-result : tie.Need-add-result
+add-result c = search needs
+
+returns : tie.Need-returns
+unfolding lowFirst listed
+returns c = omega (arith, c .wide2 .ensures .0, c .before .word2 .ensures, ap lowFirst (by-place 5 (c .before .before .before .before .before .before .before .before .before .before .args .«data» .now) (c .before .before .before .before .before .before .before .before .before .before .pre)))
+
+pub adc-in-spec : {M : Type 1} → statement M
+adc-in-spec =
+    tie.close
+    (tie.spec
+    shared-slice-read-word
+    shared-slice-read-word-2
+    shared-slice-read-word-3
+    shared-slice-read-word-4
+    word-requires
+    wide-requires
+    shared-slice-read-word-5
+    word-requires-2
+    wide-requires-2
+    mul-result
+    add-result
+    returns)

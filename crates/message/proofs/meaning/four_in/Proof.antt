@@ -1,0 +1,34 @@
+-- `message::four_in` meets its contract: data of four bytes are those bytes in their order.
+-- Why: a list of four is the list of what stands at its four places.
+use Rattle.message.proofs.Bytes.{by-place, listed}
+use borrow.Author.Needs.{needs}
+use Rattle.message.proofs.meaning.four_in.Statement.{statement}
+use Rattle.message.proofs.meaning.four_in.Tie as tie
+use Rattle.message.proofs.meaning.four_in.Reads as reads
+use Rattle.message.proofs.meaning.four_in.Lts as lts
+
+shared-slice-read-first : tie.Need-shared-slice-read-first
+shared-slice-read-first c = search needs
+
+shared-slice-read-second : tie.Need-shared-slice-read-second
+shared-slice-read-second c = search needs
+
+shared-slice-read-third : tie.Need-shared-slice-read-third
+shared-slice-read-third c = search needs
+
+shared-slice-read-fourth : tie.Need-shared-slice-read-fourth
+shared-slice-read-fourth c = search needs
+
+returns : tie.Need-returns
+unfolding listed
+returns c = by-place 4 (c .before .before .before .before .args .«data» .now) (c .before .before .before .before .pre)
+
+pub four-in-spec : {M : Type 1} → statement M
+four-in-spec =
+    tie.close
+    (tie.spec
+    shared-slice-read-first
+    shared-slice-read-second
+    shared-slice-read-third
+    shared-slice-read-fourth
+    returns)

@@ -1,0 +1,37 @@
+-- `message::serial_in` meets its contract: three bytes as a number, low byte first.
+-- Why: they are four with a zero at the high end.
+use Rattle.message.proofs.Bytes.{by-place, listed}
+use Rattle.message.specs.Meaning.{lowFirst}
+use mathlib.Core.Path.{_∙_, sym, ap}
+use borrow.Author.Needs.{needs}
+use Rattle.message.proofs.meaning.serial_in.Statement.{statement}
+use Rattle.message.proofs.meaning.serial_in.Tie as tie
+use Rattle.message.proofs.meaning.serial_in.Reads as reads
+use Rattle.message.proofs.meaning.serial_in.Lts as lts
+use Rattle.message.proofs.meaning.word.Reads as word-reads
+
+shared-slice-read-word : tie.Need-shared-slice-read-word
+shared-slice-read-word c = search needs
+
+shared-slice-read-word-2 : tie.Need-shared-slice-read-word-2
+shared-slice-read-word-2 c = search needs
+
+shared-slice-read-word-3 : tie.Need-shared-slice-read-word-3
+shared-slice-read-word-3 c = search needs
+
+word-requires : tie.Need-word-requires
+word-requires c κs = search needs
+
+returns : tie.Need-returns
+unfolding lowFirst listed
+returns c = c .word .ensures ∙ sym (ap lowFirst (by-place 3 (c .before .before .before .before .before .args .«data» .now) (c .before .before .before .before .before .pre)))
+
+pub serial-in-spec : {M : Type 1} → statement M
+serial-in-spec =
+    tie.close
+    (tie.spec
+    shared-slice-read-word
+    shared-slice-read-word-2
+    shared-slice-read-word-3
+    word-requires
+    returns)

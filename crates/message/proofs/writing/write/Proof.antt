@@ -1,0 +1,63 @@
+-- `message::write` meets its contract: judged 5, 6, 7, 8, 2, 9, and then the message's frame in the first bytes of the room.
+-- Why: what is judged before the frame writer is called stands before it in the paper's order, and it judges the rest.
+use mathlib.Core.Path.{_∙_, sym}
+use borrow.Author.Tests.{not-true, not-false}
+use Rattle.message.proofs.Order.{illegal-leaves, untold-leaves, told-leaves}
+use borrow.Author.Needs.{needs}
+use Rattle.message.proofs.writing.write.Statement.{statement}
+use Rattle.message.proofs.writing.write.Tie as tie
+use Rattle.message.proofs.writing.write.Reads as reads
+use Rattle.message.proofs.writing.write.Lts as lts
+use Rattle.frame.proofs.legal.Reads as legal-reads
+use Rattle.frame.proofs.write.Reads as write-reads
+use Rattle.message.proofs.meaning.tell.Reads as tell-reads
+use Rattle.room.proofs.refused_write.Reads as refused-write-reads
+
+legal-requires : tie.Need-legal-requires
+legal-requires c κs = search needs
+
+refused-write-requires : tie.Need-refused-write-requires
+refused-write-requires c κs = search needs
+
+returns : tie.Need-returns
+returns c = illegal-leaves _ _ _ _ _ (sym (c .before .before .legal .ensures) ∙ not-true _ (c .before .if1 .taken)) (c .refused-write .ensures)
+
+tell-requires : tie.Need-tell-requires
+tell-requires c κs = search needs
+
+enum-known-why : tie.Need-enum-known-why
+enum-known-why c = search needs
+
+refused-write-requires-2 : tie.Need-refused-write-requires-2
+refused-write-requires-2 c κs = search needs
+
+enum-told : tie.Need-enum-told
+enum-told c = search needs
+
+write-requires : tie.Need-write-requires
+write-requires c κs = search needs
+
+returns-2 : tie.Need-returns-2
+returns-2 c = untold-leaves _ _ _ _ _ (sym (c .before .before .before .before .before .before .legal .ensures) ∙ not-false _ (c .before .before .before .before .before .if1 .left)) _ (sym (c .before .before .before .before .tell .ensures) ∙ c .before .before .why .given .1) (c .refused-write2 .ensures)
+
+same-length : tie.Need-same-length
+same-length c = search needs
+
+returns-3 : tie.Need-returns-3
+returns-3 c = told-leaves _ _ _ _ _ (sym (c .before .before .before .before .before .before .before .before .legal .ensures) ∙ not-false _ (c .before .before .before .before .before .before .before .if1 .left)) _ (sym (c .before .before .before .before .before .before .tell .ensures) ∙ c .before .before .before .before .enum-told .given .1) (c .before .before .write .ensures)
+
+pub write-spec : {M : Type 1} → statement M
+write-spec =
+    tie.close
+    (tie.spec
+    legal-requires
+    refused-write-requires
+    returns
+    tell-requires
+    enum-known-why
+    refused-write-requires-2
+    enum-told
+    write-requires
+    returns-2
+    same-length
+    returns-3)

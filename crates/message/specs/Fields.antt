@@ -1,0 +1,35 @@
+-- 01, "Messages", refusal 8: the values of the fields of each row. "Characters, C7 bytes and NER are any byte."
+use Prim.Native.Nat.{ℕ}
+use mathlib.Core.Bool.{Bool, true, false, not}
+use mathlib.Core.List.{List}
+use lib.ListN.{getD}
+use lib.Dec.{eqb, ltb}
+use Rattle.weight.specs.declared.Read.{Read}
+use Rattle.weight.specs.declared.Read.the-variants.{Good, Refused}
+use Rattle.weight.specs.Bytes.{readOf}
+use Rattle.message.specs.declared.table.Row.{Row}
+use Rattle.message.specs.declared.table.Row.the-variants.{Unknown, Empty, Serial, Number, Status, Weight, Inputs, Outputs, Text, Event, Adc, Error}
+use Rattle.message.specs.Table.{among}
+
+-- W0 W1 W2 CON
+unfoldable pub readIn : List ℕ → Read
+readIn data′ = readOf (getD data′ 0 0) (getD data′ 1 0) (getD data′ 2 0) (getD data′ 3 0)
+
+-- "a half above 9 is refusal 8"
+abbrev pub readable : Read → Bool
+readable (Good reading) = true
+readable (Refused why) = false
+
+abbrev pub fieldsRight : Row → List ℕ → Bool
+fieldsRight Unknown data′ = true
+fieldsRight Empty data′ = true
+fieldsRight Serial data′ = true
+fieldsRight (Number numbers) data′ = among numbers (getD data′ 0 0)
+fieldsRight Status data′ = ltb (getD data′ 0 0) 0x80
+fieldsRight (Weight load) data′ = readable (readIn data′)
+fieldsRight Inputs data′ = true
+fieldsRight Outputs data′ = true
+fieldsRight (Text numbers) data′ = among numbers (getD data′ 0 0)
+fieldsRight Event data′ = not (eqb (getD data′ 0 0) 0x70)
+fieldsRight Adc data′ = true
+fieldsRight Error data′ = true

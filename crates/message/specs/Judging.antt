@@ -1,0 +1,46 @@
+-- 01, "What the answers mean": "A message is then judged 6, 7, 8." The reader and the writer both judge so.
+use Prim.Native.Nat.{ℕ}
+use mathlib.Core.Bool.{Bool, not}
+use mathlib.Core.List.{List}
+use Rattle.refusal.specs.declared.Refusal.the-variants.{CodeUnknown, LengthWrong, FieldOutside}
+use Rattle.refusal.specs.declared.Verdict.{Verdict}
+use Rattle.refusal.specs.declared.Verdict.the-variants.{Good, Refused}
+use Rattle.refusal.specs.Numbers.{refuseIf}
+use Rattle.message.specs.declared.table.Role.{Role}
+use Rattle.message.specs.declared.table.Row.{Row}
+use Rattle.message.specs.declared.meaning.What.{What}
+use Rattle.message.specs.declared.meaning.Told.{Told}
+use Rattle.message.specs.declared.meaning.Told.the-variants as told-as
+use Rattle.message.specs.Table.{rowOf, inTable}
+use Rattle.message.specs.Lengths.{lengthOf, lengthRight}
+use Rattle.message.specs.Fields.{fieldsRight}
+use Rattle.message.specs.Meaning.{meaning}
+
+-- 7, then 8
+unfoldable pub judgedData : Row → List ℕ → Verdict
+judgedData row data′ = refuseIf (not (lengthRight (lengthOf row) data′)) LengthWrong (refuseIf (not (fieldsRight row data′)) FieldOutside Good)
+
+-- 6 ahead of them
+unfoldable pub judgedMessage : Role → ℕ → List ℕ → Verdict
+judgedMessage role code data′ = refuseIf (not (inTable (rowOf role code))) CodeUnknown (judgedData (rowOf role code) data′)
+
+-- a judge after a judge: what the first refuses stays refused
+abbrev pub andThen : Verdict → Verdict → Verdict
+andThen Good after = after
+andThen (Refused why) after = Refused why
+
+-- what is said under a verdict
+abbrev pub telling : Verdict → What → Told
+telling Good what = told-as.What what
+telling (Refused why) what = told-as.Refused why
+
+-- what code and data say, or the refusal they earn
+unfoldable pub told : Role → ℕ → ℕ → List ℕ → Told
+told role code from data′ = telling (judgedMessage role code data′) (meaning (rowOf role code) from data′)
+
+-- its last step, where 6 and 7 are passed
+abbrev pub within : Bool → What → Told
+within right what = telling (refuseIf (not right) FieldOutside Good) what
+
+unfoldable pub said : Row → ℕ → List ℕ → Told
+said row from data′ = within (fieldsRight row data′) (meaning row from data′)

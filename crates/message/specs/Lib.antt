@@ -1,0 +1,7 @@
+pub mod Table
+pub mod Lengths
+pub mod Fields
+pub mod Meaning
+pub mod Judging
+pub mod Reading
+pub mod Writing

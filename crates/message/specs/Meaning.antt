@@ -1,0 +1,47 @@
+-- 01, "Messages": what the data of each row say, as numbers, a reading, or the place of a text in the body.
+use Prim.Native.Nat.{ℕ, _+_, _*_}
+use mathlib.Core.List.{List, [], _∷_}
+use lib.ListN.{length, getD}
+use Rattle.weight.specs.declared.Read.{Read}
+use Rattle.weight.specs.declared.Read.the-variants as read-as
+use Rattle.inputs.specs.On.{inputsOn}
+use Rattle.message.specs.declared.table.Load.{Load}
+use Rattle.message.specs.declared.table.Row.{Row}
+use Rattle.message.specs.declared.table.Row.the-variants.{Unknown, Empty, Serial, Number, Status, Weight, Inputs, Outputs, Text, Event, Adc, Error}
+use Rattle.message.specs.declared.meaning.Four.{Four}
+use Rattle.message.specs.declared.meaning.What.{What}
+use Rattle.message.specs.declared.meaning.What.the-variants as says
+use Rattle.message.specs.Fields.{readIn}
+
+-- "low first"
+unfoldable pub lowFirst : List ℕ → ℕ
+lowFirst [] = 0
+lowFirst (byte ∷ rest) = byte + 256 * lowFirst rest
+
+-- four bytes in their order
+abbrev pub bytesOf : Four → List ℕ
+bytesOf four = four .0 ∷ four .1 ∷ four .2 ∷ four .3 ∷ []
+
+-- "For C4 the library also tells how many of the 32 inputs are on."
+unfoldable pub onIn : List ℕ → ℕ
+onIn data′ = inputsOn (getD data′ 0 0) (getD data′ 1 0) (getD data′ 2 0) (getD data′ 3 0)
+
+-- a weight that could be read; one that could not is refused by 8 and says nothing
+abbrev pub weighed : Load → Read → What
+weighed load (read-as.Good reading) = says.Weight load reading
+weighed load (read-as.Refused why) = says.Nothing
+
+-- the data begin at place `from` of the body
+abbrev pub meaning : Row → ℕ → List ℕ → What
+meaning Unknown from data′ = says.Nothing
+meaning Empty from data′ = says.Nothing
+meaning Serial from data′ = says.Serial (lowFirst data′)
+meaning (Number numbers) from data′ = says.Number (getD data′ 0 0)
+meaning Status from data′ = says.Status (getD data′ 0 0)
+meaning (Weight load) from data′ = weighed load (readIn data′)
+meaning Inputs from data′ = says.Inputs (lowFirst data′) (onIn data′)
+meaning Outputs from data′ = says.Outputs (lowFirst data′)
+meaning (Text numbers) from data′ = says.Text (getD data′ 0 0) (from + 2) (from + length data′)
+meaning Event from data′ = says.Event (getD data′ 0 0) (from + 1) (from + length data′)
+meaning Adc from data′ = says.Adc (lowFirst data′)
+meaning Error from data′ = says.Error (getD data′ 0 0)

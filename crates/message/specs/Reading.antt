@@ -1,0 +1,40 @@
+-- 01, "What the answers mean": "The message reader is given a role and lent body bytes; on these it judges 2 (over 255 bytes), 1, 4, 5
+-- itself, ahead of 6, and answers a number only."
+use Prim.Native.Nat.{ℕ, _+_}
+use mathlib.Core.List.{List}
+use lib.ListN.{length}
+use Rattle.refusal.specs.declared.Verdict.{Verdict}
+use Rattle.refusal.specs.declared.Verdict.the-variants.{Good, Refused}
+use Rattle.frame.specs.declared.addresses.Address.{Address}
+use Rattle.frame.specs.Addresses.{addressIn, addressLength}
+use Rattle.frame.specs.Body.{judgedLent, codeIn, dataIn}
+use Rattle.message.specs.declared.table.Role.{Role}
+use Rattle.message.specs.declared.reading.Message.{Message}
+use Rattle.message.specs.declared.reading.Received.{Received}
+use Rattle.message.specs.declared.reading.Received.the-variants as received-as
+use Rattle.message.specs.Table.{rowOf}
+use Rattle.message.specs.Meaning.{meaning}
+use Rattle.message.specs.Judging.{andThen, judgedMessage}
+
+-- the message of an address, a code and data: in its body the data stand behind the code
+unfoldable pub messageOf : Role → Address → ℕ → List ℕ → Message
+messageOf role address code data′ =
+    let from = addressLength address + 1 in
+    record { address = address; code = code; from = from; to = from + length data′; what = meaning (rowOf role code) from data′ }
+
+-- a lent body: 2, 1, 4, 5, and then 6, 7, 8
+unfoldable pub judgedBody : Role → List ℕ → Verdict
+judgedBody role body = andThen (judgedLent body) (judgedMessage role (codeIn body) (dataIn body))
+
+abbrev pub receiving : Verdict → Message → Received
+receiving Good message = received-as.Message message
+receiving (Refused why) message = received-as.Refused why
+
+-- what an answer says of its body
+abbrev pub verdictOf : Received → Verdict
+verdictOf (received-as.Message message) = Good
+verdictOf (received-as.Refused why) = Refused why
+
+-- the message that a lent body holds, or the refusal it earns
+unfoldable pub readMessage : Role → List ℕ → Received
+readMessage role body = receiving (judgedBody role body) (messageOf role (addressIn body) (codeIn body) (dataIn body))

@@ -1,0 +1,198 @@
+// What a message says: its code and data judged 6, 7, 8, and then as numbers, a reading, or the place of a text.
+use crate::table::Length;
+use crate::table::Load;
+use crate::table::Num;
+use crate::table::Role;
+use crate::table::Row;
+use crate::table::in_table;
+use crate::table::is_among;
+use crate::table::length_right;
+use crate::table::row_of;
+use inputs::count_on;
+use refusal::Refusal;
+use weight::Read;
+use weight::Reading;
+use weight::read_bytes;
+ghost use mathlib.Core.Path.{_≡_};
+ghost use mathlib.Core.Bool.{true};
+ghost use mathlib.Core.List.{[], _∷_};
+ghost use Prim.Native.Nat.{_≤_, _<_};
+ghost use lib.ListN.{length};
+ghost use Rattle.message.specs.Lengths.{lengthOf, lengthRight};
+ghost use Rattle.message.specs.Meaning.{bytesOf, lowFirst};
+ghost use Rattle.message.specs.Judging.{within, said, told};
+
+// What a message says. A text, and the six bytes of an event, stand in the lent body from place `from` up to, not including, place `to`.
+pub enum What {
+    Nothing, // there are no data
+    Serial(u32), // the terminal's serial number
+    Number(u8), // NUM
+    Status(u8),
+    Weight(Load, Reading),
+    Inputs { bits: u32, on: u32 }, // the first byte is the low one; how many of the 32 are on
+    Outputs(u32), // the first byte is the low one
+    Text { number: u8, from: usize, to: usize },
+    Event { event: u8, from: usize, to: usize },
+    Adc(u64), // the converter's number
+    Error(u8), // NER, the number of an error
+}
+
+// What code and data say, or the refusal they earn.
+pub enum Told {
+    What(What),
+    Refused(Refusal),
+}
+
+// Four bytes as a number, low byte first.
+fn word(first: u8, second: u8, third: u8, fourth: u8) -> u32
+    ensures { λ r. ⌜ r ≡ lowFirst (first ∷ second ∷ third ∷ fourth ∷ []) ⌝ }
+{
+    let low = second as u32 * 256 + first as u32;
+    let high = fourth as u32 * 256 + third as u32;
+    high * 65_536 + low
+}
+
+fn wide(number: u32) -> u64
+    ensures { λ r. ⌜ (r ≡ number) × (r < 4_294_967_296) ⌝ }
+{
+    number as u64
+}
+
+// Three bytes, low byte first.
+fn serial_in(data: &[u8]) -> u32
+    requires { ⌜ length (now «data») ≡ 3 ⌝ }
+    ensures { λ r. ⌜ r ≡ lowFirst (now («data» .entry)) ⌝ }
+{
+    word(data[0], data[1], data[2], 0)
+}
+
+// Five bytes, unsigned, low byte first.
+fn adc_in(data: &[u8]) -> u64
+    requires { ⌜ length (now «data») ≡ 5 ⌝ }
+    ensures { λ r. ⌜ r ≡ lowFirst (now («data» .entry)) ⌝ }
+{
+    let low = wide(word(data[0], data[1], data[2], data[3]));
+    let high = wide(word(data[4], 0, 0, 0));
+    high * 4_294_967_296 + low
+}
+
+// Four bytes in their order.
+struct Four(u8, u8, u8, u8);
+
+fn four_in(data: &[u8]) -> Four
+    requires { ⌜ length (now «data») ≡ 4 ⌝ }
+    ensures { λ r. ⌜ now («data» .entry) ≡ bytesOf r ⌝ }
+{
+    let first = data[0];
+    let second = data[1];
+    let third = data[2];
+    let fourth = data[3];
+    Four(first, second, third, fourth)
+}
+
+// 8, where a field is not right.
+fn judged(right: bool, what: What) -> Told
+    ensures { λ r. ⌜ r ≡ within right what ⌝ }
+{
+    if right {
+        Told::What(what)
+    } else {
+        Told::Refused(Refusal::FieldOutside)
+    }
+}
+
+// NUM, a count, and that many characters: data of the right length, judged 8. They begin at place `from` of a body.
+fn say_text(numbers: Num, from: usize, data: &[u8]) -> Told
+    requires { ⌜ (lengthRight Length.Counted (now «data») ≡ true) × (from ≤ 255) ⌝ }
+    ensures { λ r. ⌜ r ≡ said (Row.Text numbers) from (now («data» .entry)) ⌝ }
+{
+    let number = data[0];
+    let text = from + 2;
+    let to = from + data.len();
+    judged(
+        is_among(numbers, number),
+        What::Text {
+            number,
+            from: text,
+            to,
+        },
+    )
+}
+
+// EVENT and six bytes: data of the right length, judged 8. They begin at place `from` of a body.
+fn say_event(from: usize, data: &[u8]) -> Told
+    requires { ⌜ (length (now «data») ≡ 7) × (from ≤ 255) ⌝ }
+    ensures { λ r. ⌜ r ≡ said Row.Event from (now («data» .entry)) ⌝ }
+{
+    let event = data[0];
+    let six = from + 1;
+    let to = from + data.len();
+    judged(
+        event != 0x70,
+        What::Event {
+            event,
+            from: six,
+            to,
+        },
+    )
+}
+
+// What data of the right length say, judged 8. They begin at place `from` of a body.
+fn say(row: Row, from: usize, data: &[u8]) -> Told
+    requires { ⌜ (lengthRight (lengthOf row) (now «data») ≡ true) × (from ≤ 255) ⌝ }
+    ensures { λ r. ⌜ r ≡ said row from (now («data» .entry)) ⌝ }
+{
+    match row {
+        Row::Unknown => Told::What(What::Nothing), // 6 comes first
+        Row::Empty => Told::What(What::Nothing),
+        Row::Serial => Told::What(What::Serial(serial_in(data))),
+        Row::Number(numbers) => {
+            let number = data[0];
+            judged(is_among(numbers, number), What::Number(number))
+        }
+        Row::Status => {
+            let status = data[0];
+            judged(status < 0x80, What::Status(status))
+        }
+        Row::Weight(load) => {
+            let four = four_in(data);
+            match read_bytes(four.0, four.1, four.2, four.3) {
+                Read::Good(reading) => Told::What(What::Weight(load, reading)),
+                Read::Refused(_) => Told::Refused(Refusal::FieldOutside),
+            }
+        }
+        Row::Inputs => {
+            let four = four_in(data);
+            let bits = word(four.0, four.1, four.2, four.3);
+            let on = count_on(four.0, four.1, four.2, four.3);
+            Told::What(What::Inputs { bits, on })
+        }
+        Row::Outputs => {
+            let four = four_in(data);
+            let bits = word(four.0, four.1, four.2, four.3);
+            Told::What(What::Outputs(bits))
+        }
+        Row::Text(numbers) => say_text(numbers, from, data),
+        Row::Event => say_event(from, data),
+        Row::Adc => Told::What(What::Adc(adc_in(data))),
+        Row::Error => {
+            let error = data[0];
+            Told::What(What::Error(error))
+        }
+    }
+}
+
+// Code and data judged 6, 7, 8, and what they say. The data begin at place `from` of a body.
+pub(crate) fn tell(role: Role, code: u8, from: usize, data: &[u8]) -> Told
+    requires { ⌜ from ≤ 255 ⌝ }
+    ensures { λ r. ⌜ r ≡ told role code from (now («data» .entry)) ⌝ }
+{
+    let row = row_of(role, code);
+    if !in_table(row) {
+        return Told::Refused(Refusal::CodeUnknown);
+    }
+    if !length_right(row, data) {
+        return Told::Refused(Refusal::LengthWrong);
+    }
+    say(row, from, data)
+}

@@ -1,0 +1,52 @@
+// Reading: a lent body and a role to a message.
+use crate::meaning::Told;
+use crate::meaning::What;
+use crate::meaning::tell;
+use crate::table::Role;
+use frame::Address;
+use frame::Opened;
+use frame::open;
+use refusal::Refusal;
+ghost use mathlib.Core.Path.{_≡_};
+ghost use Rattle.message.specs.Reading.{readMessage};
+
+// A message. Its data are the bytes of the lent body from place `from` up to, not including, place `to`: handed to the writer with
+// the same role, address and code they make the same body.
+pub struct Message {
+    pub address: Address,
+    pub code: u8,
+    pub from: usize,
+    pub to: usize,
+    pub what: What,
+}
+
+// A lent body read as a message, or the refusal it earns.
+pub enum Received {
+    Message(Message),
+    Refused(Refusal),
+}
+
+// A lent body read in a role. Judged 2, 1, 4, 5, and then 6, 7, 8.
+pub fn read(role: Role, body: &[u8]) -> Received
+    ensures { λ r. ⌜ r ≡ readMessage role (now (body .entry)) ⌝ }
+{
+    match open(body) {
+        Opened::Refused(why) => Received::Refused(why),
+        Opened::Parts(parts) => {
+            let address = parts.address;
+            let code = parts.code;
+            let from = parts.from;
+            let to = parts.to;
+            match tell(role, code, from, &body[from..to]) {
+                Told::Refused(why) => Received::Refused(why),
+                Told::What(what) => Received::Message(Message {
+                    address,
+                    code,
+                    from,
+                    to,
+                    what,
+                }),
+            }
+        }
+    }
+}

@@ -1,0 +1,25 @@
+// Writing: role, address, code and the data bytes of the table's row to a frame in lent room.
+use crate::meaning::Told;
+use crate::meaning::tell;
+use crate::table::Role;
+use frame::Address;
+use frame::legal;
+use refusal::Refusal;
+use room::Written;
+use room::refused_write;
+ghost use mathlib.Core.Path.{_≡_};
+ghost use Rattle.room.specs.Writing.{Leaves};
+ghost use Rattle.message.specs.Writing.{writtenMessage};
+
+// The frame of a message into lent room. Judged 5, 6, 7, 8, 2, 9.
+pub fn write(role: Role, address: Address, code: u8, data: &[u8], room: &mut [u8]) -> Written
+    ensures { λ r. ⌜ Leaves (writtenMessage role address code (now («data» .entry)) (now (room .entry))) r (now (room .exit)) ⌝ }
+{
+    if !legal(address) {
+        return refused_write(Refusal::AddressIllegal);
+    }
+    match tell(role, code, 0, data) {
+        Told::Refused(why) => refused_write(why),
+        Told::What(_) => frame::write(address, code, data, room),
+    }
+}
