@@ -1,4 +1,5 @@
 pub mod Bytes
+pub mod Examples
 pub mod Messages
 pub mod Piece
 pub mod Reading

@@ -1,3 +1,4 @@
+pub mod Examples
 pub mod Messages
 pub mod Reading
 pub mod Wire

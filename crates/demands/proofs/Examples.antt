@@ -1,0 +1,20 @@
+-- Shown: the eight judged examples of the paper, both halves of E6 and E8 among them, hold together.
+-- Why: each is computed from the definitions.
+use mathlib.Core.Path.{refl}
+use Rattle.check_byte.specs.Register.{shiftIn, feedBits, feedByte, feedAll, received}
+use Rattle.frame.specs.Addresses.{legal, addressIn, addressLength}
+use Rattle.frame.specs.Body.{short, judged, judgedLent, codeIn, dataIn}
+use Rattle.frame.specs.Stuffing.{stuffedByte, stuffed, framed}
+use Rattle.line.specs.Listener.{tick, keep, ended, hearIn, hear, andThen, events}
+use Rattle.weight.specs.Bytes.{legal as legalReading, readOf}
+use Rattle.weight.specs.Tenths.{valueOf}
+use Rattle.message.specs.Table.{lineIn, lineOf, rowOf}
+use Rattle.message.specs.Fields.{readIn}
+use Rattle.message.specs.Meaning.{lowFirst}
+use Rattle.message.specs.Judging.{judgedData, judgedMessage}
+use Rattle.message.specs.Reading.{messageOf, judgedBody, readMessage}
+use Rattle.demands.specs.Examples.{JudgedExamples}
+
+pub judged-examples : JudgedExamples
+unfolding shiftIn feedBits feedByte feedAll received legal addressIn addressLength short judged judgedLent codeIn dataIn stuffedByte stuffed framed tick keep ended hearIn hear andThen events legalReading readOf valueOf readIn lineIn lineOf rowOf lowFirst judgedData judgedMessage messageOf judgedBody readMessage
+judged-examples = record { read = refl; written = refl }

@@ -1,0 +1,122 @@
+-- 01, "Judged examples": E1 to E8 as one table under one claim: the bytes, what is heard of them from fresh with both counts, what the bodies
+-- say in a role, the values of the weights among them, and that each body's frame is the bytes again.
+use Prim.Native.Nat.{ℕ}
+use mathlib.Core.Path.{_≡_}
+use mathlib.Core.Bool.{true, false}
+use mathlib.Core.List.{List, [], _∷_, _++_, map}
+use lib.ListN.{replicate}
+use lib.IntN.{ℤ, pos, negsuc}
+use Rattle.refusal.specs.declared.Refusal.the-variants.{BodyShort, BodyLong, HeldBroken, CheckWrong, CodeUnknown}
+use Rattle.frame.specs.declared.addresses.Address.the-variants.{Short}
+use Rattle.frame.specs.Stuffing.{framed}
+use Rattle.line.specs.Listener.{Heard, nothing, frame, refused, fresh, events}
+use Rattle.weight.specs.declared.Reading.{Reading}
+use Rattle.weight.specs.declared.Value.{Value}
+use Rattle.weight.specs.declared.Value.the-variants.{Tenths}
+use Rattle.weight.specs.Tenths.{valueOf}
+use Rattle.message.specs.declared.table.Role.{Role}
+use Rattle.message.specs.declared.table.Role.the-variants.{Request, Reply}
+use Rattle.message.specs.declared.table.Load.the-variants.{Net, Gross}
+use Rattle.message.specs.declared.meaning.What.{What}
+use Rattle.message.specs.declared.meaning.What.the-variants as says
+use Rattle.message.specs.declared.reading.Received.{Received}
+use Rattle.message.specs.declared.reading.Received.the-variants as received-as
+use Rattle.message.specs.Reading.{readMessage}
+
+pub record Example : Type 0 where
+  pub wire : List ℕ
+  pub heard : List Heard
+  pub role : Role
+  pub said : List Received
+  pub values : List Value
+
+-- the bodies of the frames heard
+abbrev pub bodiesOf : List Heard → List (List ℕ)
+bodiesOf [] = []
+bodiesOf (nothing ∷ heard) = bodiesOf heard
+bodiesOf (frame wire kept body ∷ heard) = body ∷ bodiesOf heard
+bodiesOf (refused why wire kept ∷ heard) = bodiesOf heard
+
+-- the values of the weights said
+abbrev pub weighed : What → List Value → List Value
+weighed says.Nothing later = later
+weighed (says.Serial serial) later = later
+weighed (says.Number number) later = later
+weighed (says.Status status) later = later
+weighed (says.Weight load reading) later = valueOf reading ∷ later
+weighed (says.Inputs bits on) later = later
+weighed (says.Outputs bits) later = later
+weighed (says.Text number from to) later = later
+weighed (says.Event event from to) later = later
+weighed (says.Adc count) later = later
+weighed (says.Error error) later = later
+
+abbrev pub valuesOf : List Received → List Value
+valuesOf [] = []
+valuesOf (received-as.Message message ∷ said) = weighed (message .what) (valuesOf said)
+valuesOf (received-as.Refused why ∷ said) = valuesOf said
+
+-- what the definitions make of an example's bytes
+abbrev pub computed : Example → Example
+computed example =
+    let heard = events fresh (example .wire) in
+    let said = map (readMessage (example .role)) (bodiesOf heard) in
+    record { wire = example .wire; heard = heard; role = example .role; said = said; values = valuesOf said }
+
+-- the frames of the bodies heard
+abbrev pub framedAgain : Example → List (List ℕ)
+framedAgain example = map framed (bodiesOf (example .heard))
+
+abbrev pub asSent : Example → List (List ℕ)
+asSent example = map (λ (body : List ℕ). example .wire) (bodiesOf (example .heard))
+
+-- a message of short address 1 whose data stand from place 2 up to place `to`
+abbrev pub from1 : ℕ → ℕ → What → Received
+from1 code to what = received-as.Message (record { address = Short 1; code = code; from = 2; to = to; what = what })
+
+-- body 01, then so many zeros, then a check
+abbrev pub zeros : ℕ → ℕ → List ℕ
+zeros count check = 0x01 ∷ (replicate count 0 ++ (check ∷ []))
+
+abbrev pub examples : List Example
+examples =
+    record { wire = 0xFF ∷ 0x01 ∷ 0xC3 ∷ 0xE3 ∷ 0xFF ∷ 0xFF ∷ []; heard = frame 6 3 (0x01 ∷ 0xC3 ∷ 0xE3 ∷ []) ∷ []; role = Request; said = from1 0xC3 2 says.Nothing ∷ []; values = [] }
+    ∷ record { wire = 0xFF ∷ 0x01 ∷ 0xC2 ∷ 0x8A ∷ 0xFF ∷ 0xFF ∷ []; heard = frame 6 3 (0x01 ∷ 0xC2 ∷ 0x8A ∷ []) ∷ []; role = Request; said = from1 0xC2 2 says.Nothing ∷ []; values = [] }
+    ∷ record {
+      wire = 0xFF ∷ 0x01 ∷ 0xC3 ∷ 0x51 ∷ 0x02 ∷ 0x00 ∷ 0x01 ∷ 0xDE ∷ 0xFF ∷ 0xFF ∷ [];
+      heard = frame 10 7 (0x01 ∷ 0xC3 ∷ 0x51 ∷ 0x02 ∷ 0x00 ∷ 0x01 ∷ 0xDE ∷ []) ∷ [];
+      role = Reply;
+      said = from1 0xC3 6 (says.Weight Gross (record { minus = false; number = 251; point = 1; bit6 = false; bit5 = false; settled = false; overload = false })) ∷ [];
+      values = Tenths (pos 251_000_000) ∷ [];
+    }
+    ∷ record {
+      wire = 0xFF ∷ 0x01 ∷ 0xC2 ∷ 0x05 ∷ 0x00 ∷ 0x00 ∷ 0x91 ∷ 0x32 ∷ 0xFF ∷ 0xFF ∷ [];
+      heard = frame 10 7 (0x01 ∷ 0xC2 ∷ 0x05 ∷ 0x00 ∷ 0x00 ∷ 0x91 ∷ 0x32 ∷ []) ∷ [];
+      role = Reply;
+      said = from1 0xC2 6 (says.Weight Net (record { minus = true; number = 5; point = 1; bit6 = false; bit5 = false; settled = true; overload = false })) ∷ [];
+      values = Tenths (negsuc 4_999_999) ∷ [];
+    }
+    ∷ record {
+      wire = 0xFF ∷ 0x01 ∷ 0xA1 ∷ 0xFF ∷ 0xFE ∷ 0x00 ∷ 0x00 ∷ 0x39 ∷ 0xFF ∷ 0xFF ∷ [];
+      heard = frame 10 6 (0x01 ∷ 0xA1 ∷ 0xFF ∷ 0x00 ∷ 0x00 ∷ 0x39 ∷ []) ∷ [];
+      role = Reply;
+      said = from1 0xA1 5 (says.Serial 255) ∷ [];
+      values = [];
+    }
+    ∷ record { wire = 0xFF ∷ 0x01 ∷ 0xC3 ∷ 0xE2 ∷ 0xFF ∷ 0xFF ∷ []; heard = refused CheckWrong 6 3 ∷ []; role = Reply; said = []; values = [] }
+    ∷ record { wire = 0xFF ∷ 0x01 ∷ 0xFF ∷ 0xFF ∷ []; heard = refused BodyShort 4 1 ∷ []; role = Reply; said = []; values = [] }
+    ∷ record { wire = 0xFF ∷ 0x01 ∷ 0xFF ∷ 0x02 ∷ []; heard = refused HeldBroken 4 1 ∷ []; role = Reply; said = []; values = [] }
+    ∷ record {
+      wire = 0xFF ∷ (zeros 253 0x27 ++ (0xFF ∷ 0xFF ∷ []));
+      heard = frame 258 255 (zeros 253 0x27) ∷ [];
+      role = Reply;
+      said = received-as.Refused CodeUnknown ∷ [];
+      values = [];
+    }
+    ∷ record { wire = 0xFF ∷ (zeros 254 0x01 ++ (0xFF ∷ 0xFF ∷ [])); heard = refused BodyLong 257 255 ∷ []; role = Reply; said = []; values = [] }
+    ∷ []
+
+-- the one claim: what is heard, said and weighed is what the table says, and what was heard whole is written as it was sent
+pub record JudgedExamples : Type 0 where
+  pub read : map computed examples ≡ examples
+  pub written : map framedAgain examples ≡ map asSent examples
