@@ -13,7 +13,9 @@ use lib.ListN.{length, take, drop, getD, length-append, take-append-drop}
 use lib.Seq.{slice, take-at, take-suc, take-take, take-length, slice-cons}
 use lib.Pow.{areBytes}
 use Rattle.refusal.specs.declared.Verdict.the-variants.{Good}
+use Rattle.refusal.proofs.Booleans.{both-left, both-right}
 use Rattle.refusal.proofs.Verdicts.{test-passed, rest-passed}
+use Rattle.room.proofs.ByteLists.{byte-at}
 use Rattle.check_byte.specs.Register.{received, checkOf}
 use Rattle.check_byte.proofs.Laws.{checked, only-check}
 use Rattle.frame.specs.declared.addresses.Address.{Address}
@@ -22,22 +24,6 @@ use Rattle.frame.specs.Addresses.{legal, addressBytes, addressIn, addres
 use Rattle.frame.specs.Body.{unchecked, bodyOf, short, judged, judgedLent, codeIn, dataIn}
 use Rattle.frame.proofs.Anatomy.{address-length, unchecked-length, body-length}
 use Rattle.frame.proofs.Shortness.{three, address-inside, six, not-short}
-
-both-left : (a b : Bool) → (a && b) ≡ true → a ≡ true
-both-left true b e = refl
-both-left false b e = e
-
-both-right : (a b : Bool) → (a && b) ≡ true → b ≡ true
-both-right true b e = e
-both-right false b e = absurd (true≢false (sym e))
-
-T-left : (a b : Bool) → T (a && b) → T a
-T-left true b t = tt
-T-left false b t = t
-
-T-right : (a b : Bool) → T (a && b) → T b
-T-right true b t = t
-T-right false b t = absurd t
 
 -- ---- what a good body is known to have
 
@@ -135,12 +121,6 @@ module _ (code : ℕ) (data′ : List ℕ) where
       rw (long address is-legal, checked (unchecked address code data′), address-back address is-legal, is-legal)
 
 -- ---- taken apart and put together
-
--- a byte of a list of bytes, wherever it stands
-pub byte-at : (bytes : List ℕ) → T (areBytes bytes) → (i : ℕ) → getD bytes i 0 < 256
-byte-at [] all i = lit< tt
-byte-at (byte ∷ bytes) all zero = ltb→lt byte 256 (T-left (ltb byte 256) (areBytes bytes) all)
-byte-at (byte ∷ bytes) all (suc i) = byte-at bytes (T-right (ltb byte 256) (areBytes bytes) all) i
 
 first-one : (l : List ℕ) → 1 ≤ length l → take 1 l ≡ getD l 0 0 ∷ []
 first-one [] h = absurd (omega arith)

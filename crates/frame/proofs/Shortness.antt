@@ -8,18 +8,10 @@ use borrow.Author.Tests.{ltb-false, le-ltb, eq-eqb, eqb-true}
 use lib.Dec.{ltb, eqb}
 use lib.ListN.{length, getD}
 use Rattle.refusal.specs.declared.Verdict.the-variants.{Good}
+use Rattle.refusal.proofs.Booleans.{neither-left, neither-right}
 use Rattle.refusal.proofs.Verdicts.{test-passed}
 use Rattle.frame.specs.Addresses.{addressIn, addressLength}
 use Rattle.frame.specs.Body.{short, judged}
-
--- of an alternative that is false, either half is
-pub neither-left : (a b : Bool) → (a || b) ≡ false → a ≡ false
-neither-left true b e = e
-neither-left false b e = refl
-
-pub neither-right : (a b : Bool) → (a || b) ≡ false → b ≡ false
-neither-right true b e = absurd (true≢false e)
-neither-right false b e = e
 
 pub three : (body : List ℕ) → short body ≡ false → 3 ≤ length body
 unfolding short

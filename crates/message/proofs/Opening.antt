@@ -17,6 +17,7 @@ use Rattle.frame.specs.declared.bodies.Parts.{Parts}
 use Rattle.frame.specs.declared.bodies.Opened.the-variants as opened-as
 use Rattle.frame.specs.Addresses.{addressIn, addressLength}
 use Rattle.frame.specs.Body.{judged, judgedLent, codeIn, dataIn, partsOf, opening, openedBody}
+use Rattle.frame.proofs.Rebuilding.{lent-good, lent-at-most}
 use Rattle.frame.proofs.Shortness.{address-inside, good-not-short}
 use Rattle.message.specs.declared.table.Role.{Role}
 use Rattle.message.specs.declared.meaning.What.{What}
@@ -45,14 +46,6 @@ telling-refused Good said why e = cc
 telling-refused (Refused other) said why e = cc
 
 -- ---- a good body
-
-pub lent-good : (body : List ℕ) → judgedLent body ≡ Good → judged body ≡ Good
-unfolding judgedLent
-lent-good body good = rest-passed (ltb 255 (length body)) _ _ good
-
-pub lent-most : (body : List ℕ) → judgedLent body ≡ Good → length body ≤ 255
-unfolding judgedLent
-lent-most body good = ltb-false 255 (length body) (test-passed (ltb 255 (length body)) _ _ good)
 
 -- where its data stand: behind the code, up to the check
 pub data-end : (body : List ℕ) → judgedLent body ≡ Good → addressLength (addressIn body) + 1 + length (dataIn body) ≡ length body - 1
@@ -100,7 +93,7 @@ module _ (body : List ℕ) (parts : Parts) (opened : openedBody body ≡ opened-
 
   -- its data stand in it
   pub from-small : parts .from ≤ 255
-  from-small = omega (arith, from-is, inside, lent-most body was-good)
+  from-small = omega (arith, from-is, inside, lent-at-most body was-good)
 
   pub in-order : parts .from ≤ parts .to
   in-order = omega (arith, from-is, to-is, inside)

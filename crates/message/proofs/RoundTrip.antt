@@ -16,14 +16,14 @@ use Rattle.frame.specs.declared.addresses.Address.{Address}
 use Rattle.frame.specs.Addresses.{legal, addressIn}
 use Rattle.frame.specs.Body.{bodyOf, judgedLent, codeIn, dataIn}
 use Rattle.frame.specs.Stuffing.{needed}
-use Rattle.frame.proofs.Rebuilding.{address-back, code-back, data-back, made-good, good-address, rebuilt}
+use Rattle.frame.proofs.Rebuilding.{address-back, code-back, data-back, made-good, good-address, rebuilt, lent-good, lent-at-most}
 use Rattle.message.specs.declared.table.Role.{Role}
 use Rattle.message.specs.declared.reading.Message.{Message}
 use Rattle.message.specs.declared.reading.Received.the-variants as received-as
 use Rattle.message.specs.Judging.{andThen, judgedMessage}
 use Rattle.message.specs.Reading.{messageOf, judgedBody, receiving, readMessage}
 use Rattle.message.specs.Writing.{judgedMessageWrite}
-use Rattle.message.proofs.Opening.{lent-good, lent-most, data-end}
+use Rattle.message.proofs.Opening.{data-end}
 
 -- of two judges one after the other that say Good, each does
 first-good : (first second : Verdict) → andThen first second ≡ Good → first ≡ Good
@@ -82,7 +82,7 @@ module _ (role : Role) (body : List ℕ) (message : Message) (received : readMes
     again room enough =
         rw (data-are, message-is)
         (may-be-written role (addressIn body) (codeIn body) (dataIn body) room (good-address body (lent-good body read-lent)) read-judged
-        (rw rebuilt-body (lent-most body read-lent)) (rw rebuilt-body enough))
+        (rw rebuilt-body (lent-at-most body read-lent)) (rw rebuilt-body enough))
 
 -- ---- written, then read
 

@@ -1,3 +1,4 @@
+pub mod Booleans
+pub mod Distinct
 pub mod OneAnswer
 pub mod Verdicts
-pub mod Distinct

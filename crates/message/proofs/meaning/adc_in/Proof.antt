@@ -3,7 +3,7 @@
 use mathlib.Core.Path.{ap}
 use native.Mathlib.Omega.{arith}
 use Rattle.message.specs.Meaning.{lowFirst}
-use Rattle.message.proofs.Bytes.{by-place, listed}
+use Rattle.room.proofs.ByteLists.{by-place, placed}
 use borrow.Author.Needs.{needs}
 use Rattle.message.proofs.meaning.adc_in.Statement.{statement}
 use Rattle.message.proofs.meaning.adc_in.Tie as tie
@@ -46,7 +46,7 @@ add-result : tie.Need-add-result
 add-result c = search needs
 
 returns : tie.Need-returns
-unfolding lowFirst listed
+unfolding lowFirst placed
 returns c = omega (arith, c .wide2 .ensures .0, c .before .word2 .ensures, ap lowFirst (by-place 5 (c .before .before .before .before .before .before .before .before .before .before .args .«data» .now) (c .before .before .before .before .before .before .before .before .before .before .pre)))
 
 pub adc-in-spec : {M : Type 1} → statement M

@@ -1,6 +1,6 @@
 -- `message::four_in` meets its contract: data of four bytes are those bytes in their order.
 -- Why: a list of four is the list of what stands at its four places.
-use Rattle.message.proofs.Bytes.{by-place, listed}
+use Rattle.room.proofs.ByteLists.{by-place, placed}
 use borrow.Author.Needs.{needs}
 use Rattle.message.proofs.meaning.four_in.Statement.{statement}
 use Rattle.message.proofs.meaning.four_in.Tie as tie
@@ -20,7 +20,7 @@ shared-slice-read-fourth : tie.Need-shared-slice-read-fourth
 shared-slice-read-fourth c = search needs
 
 returns : tie.Need-returns
-unfolding listed
+unfolding placed
 returns c = by-place 4 (c .before .before .before .before .args .«data» .now) (c .before .before .before .before .pre)
 
 pub four-in-spec : {M : Type 1} → statement M

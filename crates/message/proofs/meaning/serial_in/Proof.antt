@@ -1,6 +1,6 @@
 -- `message::serial_in` meets its contract: three bytes as a number, low byte first.
 -- Why: they are four with a zero at the high end.
-use Rattle.message.proofs.Bytes.{by-place, listed}
+use Rattle.room.proofs.ByteLists.{by-place, placed}
 use Rattle.message.specs.Meaning.{lowFirst}
 use mathlib.Core.Path.{_∙_, sym, ap}
 use borrow.Author.Needs.{needs}
@@ -23,7 +23,7 @@ word-requires : tie.Need-word-requires
 word-requires c κs = search needs
 
 returns : tie.Need-returns
-unfolding lowFirst listed
+unfolding lowFirst placed
 returns c = c .word .ensures ∙ sym (ap lowFirst (by-place 3 (c .before .before .before .before .before .args .«data» .now) (c .before .before .before .before .before .pre)))
 
 pub serial-in-spec : {M : Type 1} → statement M
