@@ -1,0 +1,87 @@
+-- `vectors::hear` is safe and ends: each turn goes on inside the capture.
+-- Why: a block that is not empty is heard by at least one byte, and never past its end.
+use Prim.Native.Nat.{_-_}
+use mathlib.Core.Path.{_≡_}
+use native.Mathlib.Omega.{arith}
+use borrow.Author.Needs.{needs}
+use lib.ListN.{length, length-take, length-drop}
+use Rattle.vectors.proofs.lines.hear.Statement.{statement}
+use Rattle.vectors.proofs.lines.hear.Tie as tie
+use Rattle.vectors.proofs.lines.hear.Reads as reads
+use Rattle.vectors.proofs.lines.hear.Lts as lts
+use Rattle.line.proofs.reading.Reader.feed.Reads as feed-reads
+use Rattle.vectors.proofs.lines.block_end.Reads as block-end-reads
+
+-- the answer's room stays as long as it was lent
+abbrev Inv-loop : tie.InvT-loop
+Inv-loop payload out₀ size hearing₀ at₀ out hearing at = length out ≡ length out₀
+
+abbrev μ-loop : tie.MeasureT-loop
+μ-loop payload out₀ size hearing₀ at₀ out hearing at = length payload - at
+
+half-at-requires : tie.Need-half-at-requires Inv-loop μ-loop
+half-at-requires c κs = search needs
+
+new-requires : tie.Need-new-requires Inv-loop μ-loop
+new-requires c κs = search needs
+
+loop-holds : tie.Need-loop-holds Inv-loop μ-loop
+loop-holds c = search needs
+
+block-end-requires : tie.Need-block-end-requires Inv-loop μ-loop
+block-end-requires c κs = search needs
+
+sub-feed : tie.Need-sub-feed Inv-loop μ-loop
+sub-feed c = omega arith
+
+part-feed-start : tie.Need-part-feed-start Inv-loop μ-loop
+part-feed-start c = omega arith
+
+part-feed-end : tie.Need-part-feed-end Inv-loop μ-loop
+part-feed-end c = omega arith
+
+feed-requires : tie.Need-feed-requires Inv-loop μ-loop
+feed-requires c κs = tt
+
+told-requires : tie.Need-told-requires Inv-loop μ-loop
+told-requires c κs = tt
+
+add-at : tie.Need-add-at Inv-loop μ-loop
+add-at c = omega arith
+
+loop-less : tie.Need-loop-less Inv-loop μ-loop
+loop-less c = omega (arith, c .before .before .before .before .before .before .feed .ensures .forward (simp (length-take, length-drop) (omega arith)))
+
+loop-again : tie.Need-loop-again Inv-loop μ-loop
+loop-again c = search needs
+
+put-number-requires : tie.Need-put-number-requires Inv-loop μ-loop
+put-number-requires c κs = tt
+
+same-length : tie.Need-same-length Inv-loop μ-loop
+same-length c = search needs
+
+returns : tie.Need-returns Inv-loop μ-loop
+returns c = search needs
+
+pub hear-spec : {M : Type 1} → statement M
+hear-spec =
+    tie.close
+    (tie.spec
+    Inv-loop
+    μ-loop
+    half-at-requires
+    new-requires
+    loop-holds
+    block-end-requires
+    sub-feed
+    part-feed-start
+    part-feed-end
+    feed-requires
+    told-requires
+    add-at
+    loop-less
+    loop-again
+    put-number-requires
+    same-length
+    returns)

@@ -1,0 +1,62 @@
+"""Cases of the listing: lines of events, the total line, small captures."""
+
+from captures import (PAPER, any_body, named_captures, reply_body, request_body, weight_body,
+                      wrong_field_body)
+from cases_frame import written
+from frame import body_of, frame_of
+from good_messages import ROWS, good_data
+from line import Event, hear
+from listing import event_line, listing_of, total_line, write_line, write_total
+from random_bytes import RandomBytes
+
+COUNTS = (1, 2, 9, 10, 99, 100, 65_535, 10 ** 9, 2 ** 64 - 1)
+
+
+def heard(body):
+    """The event of one body on a line heard from fresh."""
+    return next(hear(frame_of(body)))
+
+
+def some_events(source):
+    for _, text in PAPER:
+        yield from hear(bytes.fromhex(text))
+    for number in range(1, 6):
+        yield Event(number, 12, 3, b'')
+    for role, code in ROWS:
+        for address in (('short', 1), ('short', 0x9F), ('serial', 0), ('serial', 16_777_215)):
+            yield heard(body_of(address, code, good_data(source, role, code, 12)))
+    for status in (0x00, 0x07, 0x08, 0x10, 0x18, 0x20, 0x40, 0x60, 0x80, 0x98, 0xFF):
+        for digits in (b'\x00\x00\x00', b'\x99\x99\x99', b'\x01\x00\x00', b'\x00\x00\x10'):
+            yield heard(body_of(('short', 10), 0xC3, digits + bytes([status])))
+    for maker in (weight_body, reply_body, request_body, any_body, wrong_field_body):
+        for _ in range(15):
+            yield heard(maker(source))
+
+
+def line_cases(source):
+    for place, event in enumerate(some_events(source)):
+        count = source.choice(COUNTS)
+        need = len(event_line(count, event))
+        lengths = (need, need - 1, need + 5, 0) if place % 4 == 0 else (need,)
+        for length in lengths:
+            yield written('write_line', write_line, (count, event), length)
+
+
+def total_cases():
+    for events, weights, refusals in ((0, 0, 0), (3, 2, 1), (10, 9, 0), (100, 10, 90), (7, 0, 0),
+                                      (2 ** 64 - 1, 2 ** 63, 2 ** 63 - 1)):
+        need = len(total_line(events, weights, refusals))
+        for length in (need, need - 1, need + 5, 0):
+            yield written('write_total', write_total, (events, weights, refusals), length)
+
+
+def capture_cases():
+    for _, capture in named_captures():
+        yield ('listing', (capture,), (listing_of(capture),))
+
+
+def cases():
+    source = RandomBytes(29)
+    yield from line_cases(source)
+    yield from total_cases()
+    yield from capture_cases()

@@ -1,0 +1,131 @@
+"""Cases of log records: written, read, made from what was heard, stepped."""
+
+from captures import any_body, high_body, reply_body, request_body, weight_body, wrong_field_body
+from cases_frame import marked_room
+from frame import frame_of
+from good_messages import weight_data
+from line import Event, hear
+from log import NO_WEIGHT, Record, read_record, record_heard, step, write_record
+from message import ROLES
+from random_bytes import RandomBytes
+
+TIMES = (0, 1, 255, 256, 86_400, 2 ** 32, 2 ** 63, 2 ** 64 - 1)
+GOOD = Record(1000, 1, 1, 0, 0x01, b'\x51\x02\x00')
+GOOD_SERIAL = Record(1000, 2, 0, 255, 0x91, b'\x05\x00\x00')
+GOOD_REFUSAL = Record(1000, 3, 0, 0, 4, NO_WEIGHT)
+
+
+def field_changes():
+    """Each field at and past its boundaries, in each kind."""
+    for base in (GOOD, GOOD._replace(kind=2), GOOD_SERIAL, GOOD_REFUSAL):
+        yield base
+        for time in TIMES:
+            yield base._replace(time=time)
+        for kind in (0, 1, 2, 3, 4, 5, 17, 128, 255):
+            yield base._replace(kind=kind)
+        for address in (0, 1, 0x9E, 0x9F, 0xA0, 0xFD, 0xFE, 0xFF):
+            yield base._replace(address=address)
+        for serial in (0, 1, 255, 256, 0xFFFFFE, 0xFFFFFF, 0x010203):
+            yield base._replace(serial=serial)
+        for status in (0, 1, 2, 3, 4, 5, 6, 7, 8, 9, 10, 11, 24, 27, 0x40, 0x91, 128, 255):
+            yield base._replace(status=status)
+        for byte in (0x00, 0x09, 0x0A, 0x90, 0x99, 0x9A, 0xA0, 0xFF):
+            for place in range(3):
+                digits = bytearray(base.weight)
+                digits[place] = byte
+                yield base._replace(weight=bytes(digits))
+
+
+def some_record(source):
+    kind = source.between(1, 3)
+    if kind == 3:
+        return Record(source.number(), 3, 0, 0, source.between(1, 8), NO_WEIGHT)
+    address = source.choice((0, source.between(1, 0x9F)))
+    serial = 0 if address else source.below(2 ** 24)
+    data = weight_data(source)
+    return Record(source.number(), kind, address, serial, data[3], data[:3])
+
+
+def write_case(record, length):
+    room = bytearray(marked_room(length))
+    answer = write_record(record, room)
+    return ('write_record', tuple(record) + (marked_room(length),), answer + (bytes(room),))
+
+
+def writing_cases(source):
+    for record in field_changes():
+        yield write_case(record, 20)
+    for serial in (0x1000000, 2 ** 32 - 1):  # open point 7.10
+        for base in (GOOD, GOOD_SERIAL, GOOD_REFUSAL):
+            yield write_case(base._replace(serial=serial), 20)
+    for length in (0, 1, 19, 20, 21, 40):
+        for record in (GOOD, GOOD_SERIAL, GOOD_REFUSAL, GOOD._replace(kind=0)):
+            yield write_case(record, length)
+    for _ in range(60):
+        yield write_case(some_record(source), source.between(18, 24))
+
+
+def record_bytes(record):
+    """The 20 bytes of a record by its places alone, right or wrong."""
+    return (record.time.to_bytes(8, 'little') + bytes([record.kind, record.address])
+            + record.serial.to_bytes(3, 'little') + bytes([record.status]) + record.weight + bytes(3))
+
+
+def read_case(twenty):
+    return ('read_record', (twenty,), read_record(twenty))
+
+
+def record_reading_cases(source):
+    for record in field_changes():
+        yield read_case(record_bytes(record))
+    for base in (GOOD, GOOD_SERIAL, GOOD_REFUSAL):
+        for place in (17, 18, 19):
+            for byte in (1, 2, 3, 4, 255):
+                changed = bytearray(record_bytes(base))
+                changed[place] = byte
+                yield read_case(bytes(changed))
+    for _ in range(100):
+        twenty = bytearray(record_bytes(some_record(source)))
+        yield read_case(bytes(twenty))
+        twenty[source.below(20)] = source.byte()
+        yield read_case(bytes(twenty))
+    for _ in range(20):
+        yield read_case(source.bytes(20))
+
+
+def heard_case(time, role, event):
+    return ('record_heard', (time, role, event), (record_heard(time, role, event),))
+
+
+def heard_cases(source):
+    for number in range(1, 6):
+        for role in ROLES:
+            yield heard_case(source.choice(TIMES), role, Event(number, 9, 4, b''))
+    makers = (weight_body, reply_body, request_body, any_body, high_body, wrong_field_body)
+    for role in ROLES:
+        for maker in makers:
+            for _ in range(20):
+                for event in hear(frame_of(maker(source))):
+                    yield heard_case(source.choice(TIMES), role, event)
+
+
+def step_cases(source):
+    """Places are whole records from the front, or past the end."""
+    logs = [b'']
+    for count in (1, 2, 3):
+        whole = b''.join(record_bytes(some_record(source)) for _ in range(count))
+        logs.append(whole)
+        logs.extend(whole + source.bytes(more) for more in (1, 2, 10, 19))
+        bad = bytearray(whole)
+        bad[8] = 0
+        logs.extend((bytes(bad), bytes(bad) + b'\x01'))
+    logs.extend(source.bytes(count) for count in (1, 18, 19, 20, 21))
+    for log in logs:
+        for place in sorted({0, 20, 40, 60, 80, len(log) // 20 * 20, 2 ** 32}):
+            yield ('step', (log, place), step(log, place))
+
+
+def cases():
+    source = RandomBytes(23)
+    for group in (writing_cases, record_reading_cases, heard_cases, step_cases):
+        yield from group(source)

@@ -1,0 +1,79 @@
+"""The listing of a capture: "A capture is read as replies throughout."
+
+"(event; address, or `0:` and the serial, in decimal; sign bit as + or -;
+digits; point; settled; overload)". Every line ends with a newline, the total
+too (open point 5.8).
+"""
+
+import line
+import message
+from refusals import ACCEPTED, lend
+
+
+def address_text(address):
+    """`0:` and the serial without a blank or leading zeros (open point 5.3)."""
+    kind, number = address
+    return '%d' % number if kind == 'short' else '0:%d' % number
+
+
+def weight_text(reading):
+    """The sign bit, not the value's sign; six digits and no point in them
+    (open point 5.4)."""
+    sign = '-' if reading.minus else '+'
+    return '%s %06d %d %d %d' % (sign, reading.number, reading.point,
+                                 reading.settled, reading.overload)
+
+
+def entry(event):
+    """('weight' or 'message' or 'refused', the line behind its event number).
+
+    A good frame whose message is refused lists as that refusal, without its
+    address (open point 5.2)."""
+    number = event.number
+    if number == ACCEPTED:
+        answer = message.read_message('reply', event.body)
+        number = answer[0]
+    if number != ACCEPTED:
+        return 'refused', 'refused %d' % number
+    _, address, code, _, fields = answer
+    if code not in (message.GROSS, message.NET):
+        return 'message', 'message %s %02X' % (address_text(address), code)
+    word = 'gross' if code == message.GROSS else 'net'
+    return 'weight', 'weight %s %s %s' % (word, address_text(address), weight_text(fields[0]))
+
+
+def event_line(count, event):
+    """One line as bytes: the event's number in the listing, then the entry."""
+    return b'%d %s\n' % (count, entry(event)[1].encode('ascii'))
+
+
+def total_line(events, weights, refusals):
+    """"The total counts all events." """
+    return b'total %d weights %d refused %d\n' % (events, weights, refusals)
+
+
+def write_line(count, event, room):
+    """An event's line into lent room: (0, length), or (9, 0)."""
+    return lend(event_line(count, event), room)
+
+
+def write_total(events, weights, refusals, room):
+    """The total line into lent room: (0, length), or (9, 0)."""
+    return lend(total_line(events, weights, refusals), room)
+
+
+def lines_of(capture):
+    """The lines of a capture, the total last."""
+    counts = {'weight': 0, 'message': 0, 'refused': 0}
+    events = 0
+    for event in line.hear(capture):
+        events += 1
+        kind, text = entry(event)
+        counts[kind] += 1
+        yield b'%d %s\n' % (events, text.encode('ascii'))
+    yield total_line(events, counts['weight'], counts['refused'])
+
+
+def listing_of(capture):
+    """The whole listing as bytes."""
+    return b''.join(lines_of(capture))

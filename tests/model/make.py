@@ -1,0 +1,119 @@
+"""Makes the vector files from the model.
+
+    python3 tests/model/make.py                writes them anew
+    python3 tests/model/make.py --check        says whether the committed ones are stale (exit 1)
+    python3 tests/model/make.py --differ FILE  says which cases a run's output answers otherwise (exit 1)
+    python3 tests/model/make.py --text         writes the cases as text to tests/model/out, to be read
+
+The committed files are what `crates/vectors` reads and what it must write. As
+text there is a file per part of the model with one case a line; and one mixed
+capture with its listing, for the program that lists a capture.
+"""
+
+import collections
+import os
+import sys
+
+import captures
+import cases
+import listing
+import vectors
+
+HERE = os.path.dirname(os.path.abspath(__file__))
+TEXT_FOLDER = os.path.join(HERE, 'out')
+VECTORS_FOLDER = os.path.join(HERE, '..', '..', 'crates', 'vectors')
+CAPTURE_SEED = 2024
+CAPTURE_SIZE = 200_000
+SHOWN = 10  # cases that a difference shows whole: a wrong length makes all that follow differ
+
+
+def text_of(part):
+    return ''.join(cases.line_of(case) + '\n' for case in part()).encode('ascii')
+
+
+def text_files():
+    """(file name, content) of the cases as text, in a stable order."""
+    for name, part in cases.PARTS:
+        yield name + '.cases', text_of(part)
+    capture = captures.capture(CAPTURE_SEED, CAPTURE_SIZE)
+    yield 'mixed.capture', capture
+    yield 'mixed.listing', listing.listing_of(capture)
+
+
+def vector_files():
+    """(file name, content) of the committed files."""
+    return tuple(zip(('stdin', 'stdout'), vectors.files()))
+
+
+def content_of(path):
+    """A file's bytes, or None where there is no such file."""
+    if not os.path.isfile(path):
+        return None
+    with open(path, 'rb') as file:
+        return file.read()
+
+
+def check():
+    stale = [name for name, content in vector_files()
+             if content_of(os.path.join(VECTORS_FOLDER, name)) != content]
+    for name in stale:
+        print('stale: crates/vectors/' + name)
+    if stale:
+        print('run python3 tests/model/make.py')
+        return 1
+    print('the vector files are as the model makes them')
+    return 0
+
+
+def write(folder, files):
+    os.makedirs(folder, exist_ok=True)
+    for name, content in files:
+        with open(os.path.join(folder, name), 'wb') as file:
+            file.write(content)
+        print('%s: %d bytes' % (name, len(content)))
+    return 0
+
+
+def write_vectors():
+    run = collections.Counter(vector.case[0] for vector in vectors.vectors())
+    for name, count in run.items():
+        print('%s: %d cases' % (name, count))
+    return write(VECTORS_FOLDER, vector_files())
+
+
+def answers_in(output):
+    """The answers of a run, each with its two bytes of length."""
+    place = 0
+    while place < len(output):
+        end = place + 2 + int.from_bytes(output[place:place + 2], 'little')
+        yield output[place:end]
+        place = end
+
+
+def differ(path):
+    wanted = list(vectors.vectors())
+    given = list(answers_in(content_of(path) or b''))
+    wrong = [(vector, answer) for vector, answer in zip(wanted, given) if vector.answer != answer]
+    for vector, answer in wrong[:SHOWN]:
+        print(cases.line_of(vector.case))
+        print('  function %d, wanted %s' % (vector.payload[0], vector.answer[2:].hex()))
+        print('  function %d, given  %s' % (vector.payload[0], answer[2:].hex()))
+    print('%d cases, %d answers, %d differ' % (len(wanted), len(given), len(wrong)))
+    return 1 if wrong or len(wanted) != len(given) else 0
+
+
+def main(arguments):
+    if arguments == ['--check']:
+        return check()
+    if arguments == ['--text']:
+        return write(TEXT_FOLDER, text_files())
+    if len(arguments) == 2 and arguments[0] == '--differ':
+        return differ(arguments[1])
+    if arguments:
+        print('usage: make.py [--check | --text | --differ FILE]', file=sys.stderr)
+        return 2
+    return write_vectors()
+
+
+if __name__ == '__main__':
+    sys.exit(main(sys.argv[1:]))

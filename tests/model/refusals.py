@@ -1,0 +1,42 @@
+"""The numbers of the paper's list "What the answers mean".
+
+Every answer of the model starts with one of these numbers. A reader that
+refuses answers the number and nothing else; a writer that refuses answers
+the number and length 0: "A refused write answers length 0 beside its number".
+"""
+
+ACCEPTED = 0         # not in the paper's list: nothing was refused
+BODY_TOO_SHORT = 1   # body ended with under 3 bytes, or first byte 00 and under 6
+BODY_TOO_LONG = 2    # 256th body byte (reading); body would pass 255 (writing)
+STRAY_BYTE = 3       # Held, then neither FE nor FF
+CHECK_WRONG = 4      # check not 0
+ADDRESS_WRONG = 5    # address not 00 to 9F; writing also: short address 0, serial too large
+CODE_UNKNOWN = 6     # code not in the table for that role
+LENGTH_WRONG = 7     # data length wrong for the code
+FIELD_WRONG = 8      # a field outside its values
+ROOM_SHORT = 9       # lent room shorter than needed
+LOG_LEFT_OVER = 10   # log bytes left over, 1 to 19
+RECORD_WRONG = 11    # log record breaks a rule
+
+
+def refused(number):
+    """A reader's refusal: number only."""
+    return (number,)
+
+
+def refused_write(number):
+    """A writer's refusal: number and length 0."""
+    return (number, 0)
+
+
+def lend(wanted, room):
+    """Put `wanted` into the lent `room` (a bytearray), judging 9.
+
+    "A refused write ... leaves every lent byte as it stood; an accepted one
+    changes only its own length of bytes." Room equal to the need is enough.
+    """
+    if len(room) < len(wanted):
+        return refused_write(ROOM_SHORT)
+    for place, byte in enumerate(wanted):
+        room[place] = byte
+    return (ACCEPTED, len(wanted))
