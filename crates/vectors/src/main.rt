@@ -27,7 +27,7 @@ fn is_known(function: u8) -> bool {
 }
 
 // The functions, each under its number.
-fn answer(function: u8, payload: &[u8], out: &mut [u8]) -> usize {
+fn of_frames(function: u8, payload: &[u8], out: &mut [u8]) -> usize {
     match function {
         1 => frames::feed(payload, out),
         2 => frames::feed_all(payload, out),
@@ -35,21 +35,44 @@ fn answer(function: u8, payload: &[u8], out: &mut [u8]) -> usize {
         4 => frames::judge(payload, out),
         5 => frames::open(payload, out),
         6 => frames::room_needed(payload, out),
-        7 => frames::write(Kind::Frame, payload, out),
+        _ => frames::write(Kind::Frame, payload, out),
+    }
+}
+
+fn of_lines(function: u8, payload: &[u8], out: &mut [u8]) -> usize {
+    match function {
         8 => lines::take(payload, out),
         9 => lines::feed(payload, out),
         10 => lines::listen(payload, out),
-        11 => lines::hear(payload, out),
+        _ => lines::hear(payload, out),
+    }
+}
+
+fn of_weights(function: u8, payload: &[u8], out: &mut [u8]) -> usize {
+    match function {
         12 => weights::read(payload, out),
         13 => weights::write(payload, out),
         14 => weights::value(payload, out),
         15 => weights::difference(payload, out),
         16 => weights::kilograms(payload, out),
-        17 => weights::inputs_on(payload, out),
-        18 => messages::read(payload, out),
-        19 => frames::write(Kind::Message, payload, out),
-        _ => 0,
+        _ => weights::inputs_on(payload, out),
     }
+}
+
+fn answer(function: u8, payload: &[u8], out: &mut [u8]) -> usize {
+    if function < 8 {
+        return of_frames(function, payload, out);
+    }
+    if function < 12 {
+        return of_lines(function, payload, out);
+    }
+    if function < 18 {
+        return of_weights(function, payload, out);
+    }
+    if function == 18 {
+        return messages::read(payload, out);
+    }
+    frames::write(Kind::Message, payload, out)
 }
 
 // Says why a run ends early.
