@@ -2,12 +2,13 @@
 -- Why: each is an equation with a definition, so two answers that meet it are equal by way of that definition.
 use Prim.Native.Nat.{ℕ}
 use mathlib.Core.Path.{_≡_}
+use mathlib.Core.Bool.{Bool}
 use Rattle.refusal.proofs.OneAnswer.{one}
 use Rattle.weight.specs.declared.Reading.{Reading}
 use Rattle.weight.specs.declared.Read.{Read}
 use Rattle.weight.specs.declared.Packed.{Packed}
 use Rattle.weight.specs.declared.Value.{Value}
-use Rattle.weight.specs.Bytes.{readOf, bytesOf}
+use Rattle.weight.specs.Bytes.{legal, readOf, bytesOf}
 use Rattle.weight.specs.Tenths.{valueOf, differenceOf}
 
 pub read-bytes-one : (w0 w1 w2 con : ℕ) (a b : Read) → a ≡ readOf w0 w1 w2 con → b ≡ readOf w0 w1 w2 con → a ≡ b
@@ -21,3 +22,6 @@ value-of-one reading a b = one
 
 pub gross-less-net-one : (gross net : Reading) (a b : Value) → a ≡ differenceOf gross net → b ≡ differenceOf gross net → a ≡ b
 gross-less-net-one gross net a b = one
+
+pub is-legal-one : (reading : Reading) (a b : Bool) → a ≡ legal reading → b ≡ legal reading → a ≡ b
+is-legal-one reading a b = one

@@ -92,7 +92,7 @@ fn weigh(mark: bool, place: u8) -> u8
 }
 
 // The number and the point lie in their ranges: asked wherever a reading is used.
-fn is_legal(reading: Reading) -> bool
+pub fn is_legal(reading: Reading) -> bool
     ensures { λ r. ⌜ r ≡ legal reading ⌝ }
 {
     (reading.number <= LARGEST_NUMBER) & (reading.point <= LARGEST_POINT)

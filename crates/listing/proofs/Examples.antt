@@ -1,0 +1,71 @@
+-- Shown: the paper's listing of E3, E4 and the first of E6, heard one after another; and every text that can be spelt in two ways.
+-- Why: both sides of each equation compute to the same bytes.
+use Prim.Native.Nat.{ℕ}
+use mathlib.Core.Path.{_≡_, refl}
+use mathlib.Core.Bool.{true, false}
+use mathlib.Core.List.{List, [], _∷_, map}
+use Rattle.refusal.specs.declared.Refusal.the-variants.{BodyShort, RecordBroken}
+use Rattle.check_byte.specs.Register.{received, feedAll, feedByte, feedBits, shiftIn}
+use Rattle.weight.specs.Bytes.{readOf}
+use Rattle.weight.specs.declared.Reading.{Reading}
+use Rattle.frame.specs.declared.addresses.Address.the-variants.{Short, Serial}
+use Rattle.frame.specs.Addresses.{legal, addressIn, addressLength}
+use Rattle.frame.specs.Body.{short, judged, judgedLent, codeIn, dataIn}
+use Rattle.line.specs.Listener.{fresh, events, andThen, hear, hearIn, keep, ended, tick}
+use Rattle.message.specs.declared.table.Load.the-variants.{Net}
+use Rattle.message.specs.Table.{lineIn, lineOf as rowsOf, rowOf}
+use Rattle.message.specs.Fields.{readIn}
+use Rattle.message.specs.Judging.{judgedData, judgedMessage}
+use Rattle.message.specs.Reading.{messageOf, judgedBody, readMessage}
+use Rattle.listing.specs.declared.entries.Entry.{Entry}
+use Rattle.listing.specs.declared.entries.Entry.the-variants.{Nothing, Weight, Message, Refused}
+use Rattle.listing.specs.Texts.{spelt, decimalIn, decimal}
+use Rattle.listing.specs.Lines.{lineOf}
+use Rattle.listing.specs.Entries.{entryHeard}
+use Rattle.listing.specs.Whole.{listing}
+
+-- E3, E4 and the first of E6, one after another
+abbrev pub capture : List ℕ
+capture =
+    0xFF ∷ 0x01 ∷ 0xC3 ∷ 0x51 ∷ 0x02 ∷ 0x00 ∷ 0x01 ∷ 0xDE ∷ 0xFF ∷ 0xFF
+    ∷ 0xFF ∷ 0x01 ∷ 0xC2 ∷ 0x05 ∷ 0x00 ∷ 0x00 ∷ 0x91 ∷ 0x32 ∷ 0xFF ∷ 0xFF
+    ∷ 0xFF ∷ 0x01 ∷ 0xC3 ∷ 0xE2 ∷ 0xFF ∷ 0xFF ∷ []
+
+pub four-lines :
+    listing (events fresh capture)
+    ≡ spelt "1 weight gross 1 + 000251 1 0 0\n2 weight net 1 - 000005 1 1 0\n3 refused 4\ntotal 3 weights 2 refused 1\n"
+unfolding listing entryHeard decimal decimalIn events andThen hear hearIn keep ended tick readMessage judgedBody messageOf judgedMessage judgedData rowOf rowsOf lineIn readIn readOf judgedLent judged short received feedAll feedByte feedBits shiftIn legal addressIn addressLength codeIn dataIn
+four-lines = refl
+
+-- a silent capture
+pub silence : listing [] ≡ spelt "total 0 weights 0 refused 0\n"
+unfolding listing decimal decimalIn
+silence = refl
+
+-- ---- lines, each of an entry with its number
+
+pub record Listed : Type 0 where
+  pub number : ℕ
+  pub entry : Entry
+  pub line : List ℕ
+
+abbrev lists-as : ℕ → Entry → List ℕ → Listed
+lists-as number entry line = record { number = number; entry = entry; line = line }
+
+-- minus zero keeps its sign; an overload keeps its digits
+abbrev overloaded : Reading
+overloaded = record { minus = true; number = 0; point = 7; bit6 = true; bit5 = true; settled = false; overload = true }
+
+abbrev pub lines : List Listed
+lines =
+    lists-as 18_446_744_073_709_551_615 (Weight Net (Serial 16_777_215) overloaded) (spelt "18446744073709551615 weight net 0:16777215 - 000000 7 0 1\n")
+    ∷ lists-as 10 (Message (Serial 0) 0xA1) (spelt "10 message 0:0 A1\n")
+    ∷ lists-as 100 (Message (Short 159) 0x0F) (spelt "100 message 159 0F\n")
+    ∷ lists-as 9 (Refused BodyShort) (spelt "9 refused 1\n")
+    ∷ lists-as 0 (Refused RecordBroken) (spelt "0 refused 11\n")
+    ∷ lists-as 7 Nothing []
+    ∷ []
+
+pub lines-listed : map (λ (listed : Listed). lineOf (listed .number) (listed .entry)) lines ≡ map (λ (listed : Listed). listed .line) lines
+unfolding decimal decimalIn
+lines-listed = refl

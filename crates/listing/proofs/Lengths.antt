@@ -1,0 +1,34 @@
+-- Shown: how long a line can be, so that a caller knows the room that is always enough: 85 bytes.
+-- Why: a number has at most 20 digits, and every other piece a length of its own.
+use Prim.Native.Nat.{ℕ, _≤_}
+use native.Mathlib.Omega.{arith}
+use lib.ListN.{length, length-append}
+use Rattle.refusal.specs.Numbers.{numberOf}
+use Rattle.frame.specs.declared.addresses.Address.{Address}
+use Rattle.frame.specs.declared.addresses.Address.the-variants.{Short, Serial}
+use Rattle.message.specs.declared.table.Load.{Load}
+use Rattle.message.specs.declared.table.Load.the-variants.{Net, Gross}
+use Rattle.listing.specs.declared.entries.Entry.{Entry}
+use Rattle.listing.specs.declared.entries.Entry.the-variants.{Nothing, Weight, Message, Refused}
+use Rattle.listing.specs.Texts.{addressText}
+use Rattle.listing.specs.Lines.{loadText, lineOf, totalOf}
+use Rattle.listing.proofs.Decimals.{decimal-size}
+
+load-length : (load : Load) → length (loadText load) ≤ 5
+load-length Net = omega arith
+load-length Gross = omega arith
+
+address-length : (address : Address) → length (addressText address) ≤ 22
+address-length (Short address) = omega (arith, decimal-size address .1)
+address-length (Serial serial) = omega (arith, decimal-size serial .1)
+
+pub line-length : (number : ℕ) (entry : Entry) → length (lineOf number entry) ≤ 72
+line-length number Nothing = omega arith
+line-length number (Weight load address reading) =
+    simp length-append (omega (arith, decimal-size number .1, load-length load, address-length address))
+line-length number (Message address code) = simp length-append (omega (arith, decimal-size number .1, address-length address))
+line-length number (Refused why) = simp length-append (omega (arith, decimal-size number .1, decimal-size (numberOf why) .1))
+
+pub total-length : (total weights refused : ℕ) → length (totalOf total weights refused) ≤ 85
+total-length total weights refused =
+    simp length-append (omega (arith, decimal-size total .1, decimal-size weights .1, decimal-size refused .1))

@@ -1,0 +1,42 @@
+-- 01, "Judged examples": the lines of a listing, "(event; address, or `0:` and the serial, in decimal; sign bit as + or -; digits; point;
+-- settled; overload)"; "Other messages list as `N message ADDRESS CODE`, the code in two capital hex digits; refusals 1 to 8 all as the third line."
+use Prim.Native.Nat.{ℕ}
+use mathlib.Core.List.{List, [], _∷_, _++_}
+use Rattle.refusal.specs.Numbers.{numberOf}
+use Rattle.message.specs.declared.table.Load.{Load}
+use Rattle.message.specs.declared.table.Load.the-variants.{Net, Gross}
+use Rattle.weight.specs.declared.Reading.{Reading}
+use Rattle.listing.specs.declared.entries.Entry.{Entry}
+use Rattle.listing.specs.declared.entries.Entry.the-variants.{Nothing, Weight, Message, Refused}
+use Rattle.listing.specs.Texts.{spelt, decimal, sixDigits, oneDigit, hexByte, addressText, signByte, markByte}
+
+-- behind a field of a line: each further field behind one blank, and a newline behind the last
+abbrev pub rest : List (List ℕ) → List ℕ
+rest [] = spelt "\n"
+rest (field ∷ more) = spelt " " ++ (field ++ rest more)
+
+abbrev pub line : List ℕ → List (List ℕ) → List ℕ
+line field more = field ++ rest more
+
+abbrev pub loadText : Load → List ℕ
+loadText Net = spelt "net"
+loadText Gross = spelt "gross"
+
+-- the fields of a reading: sign, digits, and then point, settled, overload
+abbrev pub markFields : Reading → List (List ℕ)
+markFields reading = oneDigit (reading .point) ∷ (markByte (reading .settled) ∷ []) ∷ (markByte (reading .overload) ∷ []) ∷ []
+
+abbrev pub readingFields : Reading → List (List ℕ)
+readingFields reading = (signByte (reading .minus) ∷ []) ∷ sixDigits (reading .number) ∷ markFields reading
+
+-- the line of an entry; where nothing was heard there is none
+abbrev pub lineOf : ℕ → Entry → List ℕ
+lineOf number Nothing = []
+lineOf number (Weight load address reading) = line (decimal number) (spelt "weight" ∷ loadText load ∷ addressText address ∷ readingFields reading)
+lineOf number (Message address code) = line (decimal number) (spelt "message" ∷ addressText address ∷ hexByte code ∷ [])
+lineOf number (Refused why) = line (decimal number) (spelt "refused" ∷ decimal (numberOf why) ∷ [])
+
+-- "The total counts all events."
+abbrev pub totalOf : ℕ → ℕ → ℕ → List ℕ
+totalOf total weights refused =
+    line (spelt "total") (decimal total ∷ spelt "weights" ∷ decimal weights ∷ spelt "refused" ∷ decimal refused ∷ [])

@@ -1,0 +1,150 @@
+// The pieces of a line. A line is put together from its end, so that the digits of a number come in the order in which
+// division gives them: each piece is put ahead of what stands from place `at` on, and the place where it begins is answered.
+use frame::Address;
+use message::Load;
+use room::lay;
+use weight::Reading;
+ghost use mathlib.Core.Path.{_≡_};
+ghost use mathlib.Core.List.{[], _∷_, _++_};
+ghost use Prim.Native.Nat.{_+_, _≤_, _<_};
+ghost use lib.ListN.{length};
+ghost use Rattle.listing.specs.Texts.{spelt, digit, decimal, sixDigits, hexByte, addressText, signByte, markByte};
+ghost use Rattle.listing.specs.Lines.{rest, loadText, markFields, readingFields};
+ghost use Rattle.listing.specs.Writing.{Ahead};
+
+// The byte of a digit: 0 to 9, and then the capital letters A to F.
+fn digit(value: u64) -> u8
+    requires { ⌜ value < 16 ⌝ }
+    ensures { λ r. ⌜ r ≡ digit value ⌝ }
+{
+    if value < 10 {
+        return b'0' + value as u8;
+    }
+    b'A' - 10 + value as u8
+}
+
+fn sign_byte(minus: bool) -> u8
+    ensures { λ r. ⌜ r ≡ signByte minus ⌝ }
+{
+    if minus { b'-' } else { b'+' }
+}
+
+fn mark_byte(mark: bool) -> u8
+    ensures { λ r. ⌜ r ≡ markByte mark ⌝ }
+{
+    if mark { b'1' } else { b'0' }
+}
+
+// Bytes as they are.
+pub(crate) fn put(piece: &[u8], text: &mut [u8], at: usize) -> usize
+    requires { ⌜ (length (now piece) ≤ at) × (at ≤ length (now text)) ⌝ }
+    ensures { λ r. ⌜ Ahead (now (piece .entry)) at (now (text .entry)) r (now (text .exit)) ⌝ }
+{
+    let place = at - piece.len();
+    lay(piece, text, place);
+    place
+}
+
+// A number in decimal, without leading zeros.
+pub(crate) fn put_decimal(number: u64, text: &mut [u8], at: usize) -> usize
+    requires { ⌜ (20 ≤ at) × (at ≤ length (now text)) ⌝ }
+    ensures { λ r. ⌜ Ahead (decimal number) at (now (text .entry)) r (now (text .exit)) × (at ≤ r + 20) ⌝ }
+{
+    let mut place = at;
+    let mut left = number;
+    while 10 <= left {
+        place -= 1;
+        text[place] = digit(left % 10);
+        left /= 10;
+    }
+    place -= 1;
+    text[place] = digit(left);
+    place
+}
+
+// A word and a number.
+pub(crate) fn put_counted(word: &[u8], number: u64, text: &mut [u8], at: usize) -> usize
+    requires { ⌜ (length (now word) + 20 ≤ at) × (at ≤ length (now text)) ⌝ }
+    ensures { λ r. ⌜ Ahead (now (word .entry) ++ decimal number) at (now (text .entry)) r (now (text .exit)) × (at ≤ r + (length (now (word .entry)) + 20)) ⌝ }
+{
+    let behind = put_decimal(number, text, at);
+    put(word, text, behind)
+}
+
+// An address in decimal, or `0:` and the serial.
+pub(crate) fn put_address(address: Address, text: &mut [u8], at: usize) -> usize
+    requires { ⌜ (22 ≤ at) × (at ≤ length (now text)) ⌝ }
+    ensures { λ r. ⌜ Ahead (addressText address) at (now (text .entry)) r (now (text .exit)) × (at ≤ r + 22) ⌝ }
+{
+    match address {
+        Address::Short(short) => put_decimal(short as u64, text, at),
+        Address::Serial(serial) => put_counted(b"0:", serial as u64, text, at),
+    }
+}
+
+// The words of a weight line.
+pub(crate) fn put_load(load: Load, text: &mut [u8], at: usize) -> usize
+    requires { ⌜ (14 ≤ at) × (at ≤ length (now text)) ⌝ }
+    ensures { λ r. ⌜ Ahead (spelt " weight " ++ (loadText load ++ spelt " ")) at (now (text .entry)) r (now (text .exit)) × (at ≤ r + 14) ⌝ }
+{
+    match load {
+        Load::Net => put(b" weight net ", text, at),
+        Load::Gross => put(b" weight gross ", text, at),
+    }
+}
+
+// Point, settled, overload, and the end of the line.
+fn put_marks(reading: Reading, text: &mut [u8], at: usize) -> usize
+    requires { ⌜ (7 ≤ at) × (at ≤ length (now text)) ⌝ }
+    ensures { λ r. ⌜ Ahead (rest (markFields reading)) at (now (text .entry)) r (now (text .exit)) ⌝ }
+{
+    let point = digit(reading.point as u64 % 10);
+    let settled = mark_byte(reading.settled);
+    let overload = mark_byte(reading.overload);
+    let piece = [b' ', point, b' ', settled, b' ', overload, b'\n'];
+    put(&piece, text, at)
+}
+
+// The sign and six digits.
+fn put_digits(minus: bool, number: u32, text: &mut [u8], at: usize) -> usize
+    requires { ⌜ (9 ≤ at) × (at ≤ length (now text)) ⌝ }
+    ensures { λ r. ⌜ Ahead (spelt " " ++ ((signByte minus ∷ []) ++ (spelt " " ++ sixDigits number))) at (now (text .entry)) r (now (text .exit)) ⌝ }
+{
+    let sign = sign_byte(minus);
+    let ones = number as u64;
+    let tens = ones / 10;
+    let hundreds = tens / 10;
+    let thousands = hundreds / 10;
+    let ten_thousands = thousands / 10;
+    let hundred_thousands = ten_thousands / 10;
+    let first = digit(hundred_thousands % 10);
+    let second = digit(ten_thousands % 10);
+    let third = digit(thousands % 10);
+    let fourth = digit(hundreds % 10);
+    let fifth = digit(tens % 10);
+    let sixth = digit(ones % 10);
+    let piece = [b' ', sign, b' ', first, second, third, fourth, fifth, sixth];
+    put(&piece, text, at)
+}
+
+// A reading, and the end of the line.
+pub(crate) fn put_reading(reading: Reading, text: &mut [u8], at: usize) -> usize
+    requires { ⌜ (16 ≤ at) × (at ≤ length (now text)) ⌝ }
+    ensures { λ r. ⌜ Ahead (rest (readingFields reading)) at (now (text .entry)) r (now (text .exit)) ⌝ }
+{
+    let behind = put_marks(reading, text, at);
+    put_digits(reading.minus, reading.number, text, behind)
+}
+
+// A code in two capital hex digits, and the end of the line.
+pub(crate) fn put_code(code: u8, text: &mut [u8], at: usize) -> usize
+    requires { ⌜ (4 ≤ at) × (at ≤ length (now text)) ⌝ }
+    ensures { λ r. ⌜ Ahead (rest (hexByte code ∷ [])) at (now (text .entry)) r (now (text .exit)) ⌝ }
+{
+    let low = code as u64;
+    let high = low / 16;
+    let first = digit(high % 16);
+    let second = digit(low % 16);
+    let piece = [b' ', first, second, b'\n'];
+    put(&piece, text, at)
+}
