@@ -5,9 +5,10 @@
     python3 tests/model/make.py --differ FILE  says which cases a run's output answers otherwise (exit 1)
     python3 tests/model/make.py --text         writes the cases as text to tests/model/out, to be read
 
-The committed files are what `crates/vectors` reads and what it must write. As
-text there is a file per part of the model with one case a line; and one mixed
-capture with its listing, for the program that lists a capture.
+The committed files are what `crates/vectors` reads and must write, and a mixed
+capture with its listing, which `crates/list_capture` reads and must write; and
+the small morning of samples/. As text there is a file per part of the model
+with one case a line.
 """
 
 import collections
@@ -17,11 +18,12 @@ import sys
 import captures
 import cases
 import listing
+import sample
 import vectors
 
 HERE = os.path.dirname(os.path.abspath(__file__))
 TEXT_FOLDER = os.path.join(HERE, 'out')
-VECTORS_FOLDER = os.path.join(HERE, '..', '..', 'crates', 'vectors')
+ROOT = os.path.join(HERE, '..', '..')
 CAPTURE_SEED = 2024
 CAPTURE_SIZE = 200_000
 SHOWN = 10  # cases that a difference shows whole: a wrong length makes all that follow differ
@@ -35,14 +37,22 @@ def text_files():
     """(file name, content) of the cases as text, in a stable order."""
     for name, part in cases.PARTS:
         yield name + '.cases', text_of(part)
+
+
+def run_files():
+    """(program, what it reads, what it must write) of the committed files."""
+    yield ('vectors', *vectors.files())
     capture = captures.capture(CAPTURE_SEED, CAPTURE_SIZE)
-    yield 'mixed.capture', capture
-    yield 'mixed.listing', listing.listing_of(capture)
+    yield 'list_capture', capture, listing.listing_of(capture)
 
 
-def vector_files():
+def committed_files():
     """(file name, content) of the committed files."""
-    return tuple(zip(('stdin', 'stdout'), vectors.files()))
+    for program, stdin, stdout in run_files():
+        yield 'crates/%s/stdin' % program, stdin
+        yield 'crates/%s/stdout' % program, stdout
+    yield 'samples/morning.capture', sample.morning()
+    yield 'samples/morning.listing', listing.listing_of(sample.morning())
 
 
 def content_of(path):
@@ -54,21 +64,22 @@ def content_of(path):
 
 
 def check():
-    stale = [name for name, content in vector_files()
-             if content_of(os.path.join(VECTORS_FOLDER, name)) != content]
+    stale = [name for name, content in committed_files()
+             if content_of(os.path.join(ROOT, name)) != content]
     for name in stale:
-        print('stale: crates/vectors/' + name)
+        print('stale: ' + name)
     if stale:
         print('run python3 tests/model/make.py')
         return 1
-    print('the vector files are as the model makes them')
+    print('the committed files are as the model makes them')
     return 0
 
 
 def write(folder, files):
-    os.makedirs(folder, exist_ok=True)
     for name, content in files:
-        with open(os.path.join(folder, name), 'wb') as file:
+        path = os.path.join(folder, name)
+        os.makedirs(os.path.dirname(path), exist_ok=True)
+        with open(path, 'wb') as file:
             file.write(content)
         print('%s: %d bytes' % (name, len(content)))
     return 0
@@ -78,7 +89,7 @@ def write_vectors():
     run = collections.Counter(vector.case[0] for vector in vectors.vectors())
     for name, count in run.items():
         print('%s: %d cases' % (name, count))
-    return write(VECTORS_FOLDER, vector_files())
+    return write(ROOT, committed_files())
 
 
 def answers_in(output):

@@ -1,0 +1,49 @@
+// The page: lines on their way out. It goes out when it is full, when a read came back short, and at the end.
+use libc::STDOUT_FILENO;
+use room::lay;
+
+// How much of the page is written on, and whether every page so far went out.
+pub struct Page {
+    pub used: usize,
+    pub whole: bool,
+}
+
+// The front of some bytes, or all there are.
+pub fn front(bytes: &[u8], length: usize) -> &[u8] {
+    if bytes.len() < length {
+        return &bytes[0..bytes.len()];
+    }
+    &bytes[0..length]
+}
+
+// After a write that failed nothing more goes out: what came later would look as if it stood next to what came before.
+pub fn flush(page: Page, room: &mut [u8]) -> Page {
+    let used = page.used;
+    if !page.whole {
+        return page;
+    }
+    let whole = io::write_all(STDOUT_FILENO, front(room, used));
+    if !whole {
+        os::fail(b"standard output");
+    }
+    Page { used: 0, whole }
+}
+
+// A line behind those of the page; a page that has no room for it goes out first.
+pub fn put(line: &[u8], page: Page, room: &mut [u8]) -> Page {
+    let used = page.used;
+    let whole = page.whole;
+    let end = lay(line, room, used);
+    if end != used {
+        return Page { used: end, whole };
+    }
+    if line.len() == 0 {
+        return page;
+    }
+    let fresh = flush(page, room);
+    let sound = fresh.whole;
+    Page {
+        used: lay(line, room, 0),
+        whole: sound,
+    }
+}
