@@ -8,7 +8,7 @@ use lib.ListN.{length, take, drop, replicate, length-append, length-replicate, t
 use lib.Seq.{take-append-le}
 use Rattle.frame.specs.Stuffing.{stuffed}
 use Rattle.line.specs.Listener.{Heard, nothing, frame, refused, Listener, delimited, events, after, hear, andThen}
-use Rattle.demands.specs.Wire.{Sent, Proper, onWire, wireOf, framesOf, fed, StopsInside, AnyCut, AnyBlocks}
+use Rattle.demands.specs.Wire.{Sent, Proper, onWire, wireOf, framesOf, overBlocks, StopsInside, AnyCut, AnyBlocks}
 use Rattle.demands.proofs.Bytes.{at, delimited-run}
 use Rattle.demands.proofs.Piece.{stuff, body-held}
 use Rattle.demands.proofs.AllHeard.{size, all-heard, Opens, either-way, opens-wire, opens-at-once, opens-part}
@@ -36,12 +36,19 @@ left-by-both listener (byte ∷ first) second = left-by-both (hear listener byte
 pub any-cut : AnyCut
 any-cut listener first second = record { heard = heard-in-two listener first second; left = left-by-both listener first second }
 
+-- a hearer whom a cut in two does not change is changed by no cut
+pub over-blocks : {S : Type 0} (told : S → List ℕ → List Heard) (left : S → List ℕ → S) → ((state : S) → told state [] ≡ [])
+    → ((state : S) (first second : List ℕ) → told state (first ++ second) ≡ told state first ++ told (left state first) second)
+    → (state : S) (blocks : List (List ℕ)) → overBlocks told left state blocks ≡ told state (flatten blocks)
+unfolding overBlocks flatten
+over-blocks told left none in-two state [] = sym (none state)
+over-blocks told left none in-two state (block ∷ blocks) =
+    ap (λ (later : List Heard). told state block ++ later) (over-blocks told left none in-two (left state block) blocks)
+    ∙ sym (in-two state block (flatten blocks))
+
 pub any-blocks : AnyBlocks
-unfolding fed flatten events
-any-blocks listener [] = refl
-any-blocks listener (block ∷ blocks) =
-    ap (λ (later : List Heard). events listener block ++ later) (any-blocks (after listener block) blocks)
-    ∙ sym (heard-in-two listener block (flatten blocks))
+unfolding events
+any-blocks = over-blocks events after (λ (listener : Listener). refl) heard-in-two
 
 -- a capture that stops ahead of the second FF behind a body: up to the first FF behind it nothing is heard, so neither is in a part of that
 nothing-in-part : (first second : List Heard) → first ++ second ≡ [] → first ≡ []

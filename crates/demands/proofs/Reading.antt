@@ -3,9 +3,8 @@
 use Prim.Native.Nat.{ℕ, zero, suc, _+_, _≤_}
 use mathlib.Core.Path.{_≡_, _∙_, refl, sym, ap}
 use mathlib.Core.Bool.{not}
-use mathlib.Core.List.{List, [], _∷_, _++_, flatten}
+use mathlib.Core.List.{List, [], _∷_, _++_}
 use native.Mathlib.Omega.{arith}
-use native.Mathlib.Numerals.{add-one}
 use native.Mathlib.Nat.{zero-add}
 use lib.ListN.{length, take, drop}
 use borrow.Author.Tests.{not-false}
@@ -27,15 +26,14 @@ use Rattle.frame.proofs.Stuffing.{framed-length}
 use Rattle.line.specs.declared.places.Event.{Event}
 use Rattle.line.specs.declared.places.Event.the-variants.{Nothing, Frame, Refused}
 use Rattle.line.specs.declared.reading.Reader.{Reader}
-use Rattle.line.specs.declared.reading.Taken.{Taken}
 use Rattle.line.specs.declared.reading.Fed.{Fed}
-use Rattle.line.specs.Listener.{Heard, nothing, frame, refused, Listener, hear, andThen, events, fresh}
-use Rattle.line.specs.Readers.{view, listening, taken, heardAs, unless, fedFrom, fed, freshReader}
+use Rattle.line.specs.Listener.{Heard, frame, Listener, hear, andThen, events, fresh}
+use Rattle.line.specs.Readers.{view, listening, taken, heardAs, fedFrom, fed, freshReader}
 use Rattle.line.proofs.Joined.{joined, told}
-use Rattle.demands.specs.Reading.{Joins, EveryByte, afterBytes, heardBy, HearsAsListener, AsBytes, EveryBlock, heardOver, EveryCut, ReaderDemand3, WrittenReadsBack}
-use Rattle.demands.specs.Wire.{Sent, wireOf}
+use Rattle.demands.specs.Reading.{EveryByte, afterBytes, heardBy, HearsAsListener, EveryBlock, EveryCut, ReaderDemand3, WrittenReadsBack}
+use Rattle.demands.specs.Wire.{wireOf}
 use Rattle.demands.proofs.Corollaries.{reads-back}
-use Rattle.demands.proofs.Cuts.{and-then-append}
+use Rattle.demands.proofs.Cuts.{and-then-append, over-blocks}
 use Rattle.demands.proofs.Demand3.{demand3}
 
 pub every-byte : EveryByte
@@ -135,11 +133,8 @@ heard-in-two reader (byte ∷ first) second =
     ∙ and-then-append (heardAs (taken reader byte .event) (taken reader byte .reader .body)) (heardBy (taken reader byte .reader) first) (heardBy (afterBytes (taken reader byte .reader) first) second)
 
 pub every-cut : EveryCut
-unfolding heardOver heardBy flatten
-every-cut reader [] = refl
-every-cut reader (block ∷ blocks) =
-    ap (λ (later : List Heard). heardBy reader block ++ later) (every-cut (afterBytes reader block) blocks)
-    ∙ sym (heard-in-two reader block (flatten blocks))
+unfolding heardBy
+every-cut = over-blocks heardBy afterBytes (λ (reader : Reader). refl) heard-in-two
 
 -- ---- what the frame writer wrote
 

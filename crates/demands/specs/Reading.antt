@@ -1,7 +1,7 @@
 -- The reader that the code has is the paper's listener: byte by byte, block by block, and for what the frame writer wrote.
 use Prim.Native.Nat.{ℕ, _≤_}
 use mathlib.Core.Path.{_≡_}
-use mathlib.Core.List.{List, [], _∷_, _++_, flatten}
+use mathlib.Core.List.{List, [], _∷_, flatten}
 use lib.ListN.{length, take, drop}
 use Rattle.refusal.specs.declared.Verdict.the-variants.{Good}
 use Rattle.room.specs.declared.Written.{Written}
@@ -13,7 +13,7 @@ use Rattle.line.specs.declared.places.Event.the-variants.{Nothing}
 use Rattle.line.specs.declared.reading.Reader.{Reader}
 use Rattle.line.specs.Listener.{Heard, frame, hear, andThen, events}
 use Rattle.line.specs.Readers.{view, taken, heardAs, fed, freshReader}
-use Rattle.demands.specs.Wire.{Sent, AllProper, wireOf, heardOf}
+use Rattle.demands.specs.Wire.{Sent, AllProper, wireOf, heardOf, overBlocks}
 
 -- ---- one byte
 
@@ -57,13 +57,8 @@ EveryBlock = (reader : Reader) (block : List ℕ) → AsBytes reader block
 
 -- ---- any cut of the bytes into blocks
 
--- what is told over blocks that are fed one after the other, each to its end
-unfoldable pub heardOver : Reader → List (List ℕ) → List Heard
-heardOver reader [] = []
-heardOver reader (block ∷ blocks) = heardBy reader block ++ heardOver (afterBytes reader block) blocks
-
 abbrev pub EveryCut : Type 0
-EveryCut = (reader : Reader) (blocks : List (List ℕ)) → heardOver reader blocks ≡ heardBy reader (flatten blocks)
+EveryCut = (reader : Reader) (blocks : List (List ℕ)) → overBlocks heardBy afterBytes reader blocks ≡ heardBy reader (flatten blocks)
 
 -- ---- demand 3, by the reader; and demand 2's reading of what the frame writer wrote
 

@@ -109,11 +109,11 @@ pub record CutInTwo (listener : Listener) (first second : List ℕ) : Type 0 whe
 abbrev pub AnyCut : Type 0
 AnyCut = (listener : Listener) (first second : List ℕ) → CutInTwo listener first second
 
--- the events of blocks that are fed one after the other
-unfoldable pub fed : Listener → List (List ℕ) → List Heard
-fed listener [] = []
-fed listener (block ∷ blocks) = events listener block ++ fed (after listener block) blocks
+-- what is told over blocks that are heard one after the other, each from where the block before it left the hearer
+unfoldable pub overBlocks : {S : Type 0} → (S → List ℕ → List Heard) → (S → List ℕ → S) → S → List (List ℕ) → List Heard
+overBlocks told left state [] = []
+overBlocks told left state (block ∷ blocks) = told state block ++ overBlocks told left (left state block) blocks
 
 -- cutting the bytes into blocks anywhere changes nothing
 abbrev pub AnyBlocks : Type 0
-AnyBlocks = (listener : Listener) (blocks : List (List ℕ)) → fed listener blocks ≡ events listener (flatten blocks)
+AnyBlocks = (listener : Listener) (blocks : List (List ℕ)) → overBlocks events after listener blocks ≡ events listener (flatten blocks)

@@ -26,15 +26,15 @@ use Rattle.message.specs.Writing.{judgedMessageWrite}
 use Rattle.message.proofs.Opening.{data-end}
 
 -- of two judges one after the other that say Good, each does
-first-good : (first second : Verdict) → andThen first second ≡ Good → first ≡ Good
+pub first-good : (first second : Verdict) → andThen first second ≡ Good → first ≡ Good
 first-good Good second e = refl
 first-good (Refused why) second e = refused-not-good e
 
-second-good : (first second : Verdict) → andThen first second ≡ Good → second ≡ Good
+pub second-good : (first second : Verdict) → andThen first second ≡ Good → second ≡ Good
 second-good Good second e = e
 second-good (Refused why) second e = refused-not-good e
 
-receiving-good : (verdict : Verdict) (m n : Message) → receiving verdict m ≡ received-as.Message n → (verdict ≡ Good) × (n ≡ m)
+pub receiving-good : (verdict : Verdict) (m n : Message) → receiving verdict m ≡ received-as.Message n → (verdict ≡ Good) × (n ≡ m)
 receiving-good Good m n e = (refl, cc)
 receiving-good (Refused why) m n e = (cc, cc)
 
