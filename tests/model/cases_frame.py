@@ -1,7 +1,7 @@
 """Cases of the check byte, of bodies, and of frames written into lent room."""
 
 from check_byte import check_of, fed, register_of
-from frame import (body_of, frame_of, judge_heard, judge_lent, open_body, room_needed, stuffed,
+from frame import (address_is_legal, body_of, frame_of, judge_heard, judge_lent, open_body, room_needed, stuffed,
                    write_frame)
 from captures import PAPER, body_of_length, body_with_check_ff
 from good_messages import some_address
@@ -45,6 +45,11 @@ def check_cases(source):
         yield ('register_of', (sent,), (bytes([register_of(sent)]),))
         whole = sent + bytes([check_of(sent)])
         yield ('register_of', (whole,), (bytes([register_of(whole)]),))
+
+
+def address_cases():
+    for address in ADDRESSES + tuple(('short', number) for number in range(256)):
+        yield ('address_is_legal', (address,), (address_is_legal(address),))
 
 
 def judged_bodies(source):
@@ -139,5 +144,6 @@ def stuffing_cases(source):
 
 def cases():
     source = RandomBytes(11)
+    yield from address_cases()
     for group in (check_cases, body_cases, stuffing_cases, write_cases):
         yield from group(source)

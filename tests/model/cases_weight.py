@@ -3,7 +3,8 @@
 from good_messages import weight_data
 from message import inputs_on
 from random_bytes import RandomBytes
-from weight import (Reading, difference, float_bits, kilograms, read_reading, value, write_reading)
+from weight import (Reading, difference, float_bits, kilograms, read_reading, reading_is_right, value,
+                    write_reading)
 
 NUMBERS = (0, 1, 5, 9, 10, 99, 100, 251, 9_999, 10_000, 99_999, 100_000, 999_998, 999_999)
 WRONG_NUMBERS = (1_000_000, 1_000_001, 2 ** 24, 2 ** 32 - 1)
@@ -61,6 +62,7 @@ def kilogram_answer(reading):
 
 def reading_cases(source):
     for reading in list(right_readings(source)) + list(wrong_readings()):
+        yield ('reading_is_right', (reading,), (reading_is_right(reading),))
         yield ('write_reading', (reading,), write_reading(reading))
         yield ('value', (reading,), value(reading))
         yield ('kilograms', (reading,), kilogram_answer(reading))

@@ -26,7 +26,7 @@ TEXT_FOLDER = os.path.join(HERE, 'out')
 ROOT = os.path.join(HERE, '..', '..')
 CAPTURE_SEED = 2024
 CAPTURE_SIZE = 200_000
-SHOWN = 10  # cases that a difference shows whole: a wrong length makes all that follow differ
+SHOWN = 10  # cases that a difference shows whole
 
 
 def text_of(part):
@@ -92,23 +92,14 @@ def write_vectors():
     return write(ROOT, committed_files())
 
 
-def answers_in(output):
-    """The answers of a run, each with its two bytes of length."""
-    place = 0
-    while place < len(output):
-        end = place + 2 + int.from_bytes(output[place:place + 2], 'little')
-        yield output[place:end]
-        place = end
-
-
 def differ(path):
     wanted = list(vectors.vectors())
-    given = list(answers_in(content_of(path) or b''))
+    given = (content_of(path) or b'').splitlines()
     wrong = [(vector, answer) for vector, answer in zip(wanted, given) if vector.answer != answer]
     for vector, answer in wrong[:SHOWN]:
         print(cases.line_of(vector.case))
-        print('  function %d, wanted %s' % (vector.payload[0], vector.answer[2:].hex()))
-        print('  function %d, given  %s' % (vector.payload[0], answer[2:].hex()))
+        print('  wanted ' + vector.answer.decode('ascii'))
+        print('  given  ' + answer.decode('ascii', 'replace'))
     print('%d cases, %d answers, %d differ' % (len(wanted), len(given), len(wrong)))
     return 1 if wrong or len(wanted) != len(given) else 0
 

@@ -1,21 +1,22 @@
 // Cases of the listener: one byte, one block, a whole capture.
-use crate::answers::put_bytes;
-use crate::answers::put_number;
-use crate::answers::put_refusal;
-use crate::answers::put_size;
 use crate::payload::byte_at;
 use crate::payload::half_at;
 use crate::payload::number_at;
 use crate::payload::part;
 use crate::payload::rest;
+use crate::words::say_bytes;
+use crate::words::say_number;
+use crate::words::say_refusal;
+use crate::words::say_small;
+use crate::words::say_tagged;
 use line::BodyPlace;
 use line::Event;
 use line::Phase;
 use line::Place;
 use line::Reader;
 use line::WirePlace;
+use refusal::Refusal;
 use room::lay;
-use room::lay_byte;
 ghost use Prim.Native.Nat.{_<_, _≤_};
 
 fn phase_at(payload: &[u8], at: usize) -> Phase {
@@ -38,6 +39,34 @@ fn place_at(payload: &[u8]) -> Place {
     }
 }
 
+// The refusals of the line, by their numbers.
+fn refusal_of(number: u8) -> Refusal {
+    match number {
+        1 => Refusal::BodyShort,
+        2 => Refusal::BodyLong,
+        3 => Refusal::HeldBroken,
+        4 => Refusal::CheckWrong,
+        _ => Refusal::AddressIllegal,
+    }
+}
+
+// Seventeen bytes: the refusal's number or 0 for a frame, eight of the wire count, eight of the kept count.
+pub fn event_at(payload: &[u8], at: usize) -> Event
+    requires { ⌜ at < 100 ⌝ }
+{
+    let number = byte_at(payload, at);
+    let wire = number_at(payload, at + 1);
+    let kept = number_at(payload, at + 9);
+    if number == 0 {
+        return Event::Frame(WirePlace(wire), BodyPlace(kept as usize));
+    }
+    Event::Refused(
+        refusal_of(number),
+        WirePlace(wire),
+        BodyPlace(kept as usize),
+    )
+}
+
 // A state with some bytes at the front of its 255, zeros behind them.
 fn reader_of(payload: &[u8], kept: &[u8]) -> Reader {
     let mut body = [0u8; 255];
@@ -48,61 +77,61 @@ fn reader_of(payload: &[u8], kept: &[u8]) -> Reader {
     }
 }
 
-fn put_phase(phase: Phase, out: &mut [u8], at: usize) -> usize {
+fn phase_number(phase: Phase) -> u8 {
     match phase {
-        Phase::Seeking => lay_byte(0, out, at),
-        Phase::Delimited => lay_byte(1, out, at),
-        Phase::Inside => lay_byte(2, out, at),
-        Phase::Held => lay_byte(3, out, at),
+        Phase::Seeking => 0,
+        Phase::Delimited => 1,
+        Phase::Inside => 2,
+        Phase::Held => 3,
     }
 }
 
 // A state handed back: what lies behind its kept bytes is of older bodies, and is not told.
-fn put_place(place: Place, body: &[u8; 255], out: &mut [u8]) -> usize {
+fn say_place(place: Place, body: &[u8; 255]) {
     let all: &[u8] = body;
     let kept = place.kept.0;
     let phase = place.phase;
-    let phased = put_phase(phase, out, 0);
-    let counted = put_number(place.wire.0, out, phased);
-    let told = put_size(kept, out, counted);
-    put_bytes(part(all, 0, kept), out, told)
+    say_small(phase_number(phase));
+    say_number(place.wire.0);
+    say_number(kept as u64);
+    say_bytes(part(all, 0, kept))
 }
 
-// 0; or 1, both counts and the body; or 2, the number and both counts.
-fn put_event(event: Event, body: &[u8; 255], out: &mut [u8], at: usize) -> usize {
+fn say_frame(wire: u64, count: usize, body: &[u8; 255]) {
     let all: &[u8] = body;
+    say_tagged(1, wire);
+    say_number(count as u64);
+    say_bytes(part(all, 0, count))
+}
+
+// What an event tells: its counts, and the body or the refusal's number.
+fn say_event(event: Event, body: &[u8; 255]) {
     match event {
-        Event::Nothing => lay_byte(0, out, at),
-        Event::Frame(wire, kept) => {
-            let told = lay_byte(1, out, at);
-            let placed = put_number(wire.0, out, told);
-            let count = kept.0;
-            let counted = put_size(count, out, placed);
-            put_bytes(part(all, 0, count), out, counted)
-        }
+        Event::Nothing => say_small(0),
+        Event::Frame(wire, kept) => say_frame(wire.0, kept.0, body),
         Event::Refused(why, wire, kept) => {
-            let told = lay_byte(2, out, at);
-            let numbered = put_refusal(why, out, told);
-            let placed = put_number(wire.0, out, numbered);
-            put_size(kept.0, out, placed)
+            say_small(2);
+            say_refusal(why);
+            say_number(wire.0);
+            say_number(kept.0 as u64)
         }
     }
 }
 
 // Place, byte, bytes of the state; the next state, the event.
-pub fn take(payload: &[u8], out: &mut [u8]) -> usize {
+pub fn take(payload: &[u8]) {
     let reader = reader_of(payload, rest(payload, 18));
     let taken = reader.take(byte_at(payload, 17));
     let next = taken.reader;
     let place = next.place;
     let body = next.body;
     let event = taken.event;
-    let told = put_place(place, &body, out);
-    put_event(event, &body, out, told)
+    say_place(place, &body);
+    say_event(event, &body)
 }
 
 // Place, bytes of the state, block; the next state, the bytes taken, the event.
-pub fn feed(payload: &[u8], out: &mut [u8]) -> usize {
+pub fn feed(payload: &[u8]) {
     let end = 19 + half_at(payload, 17);
     let reader = reader_of(payload, part(payload, 19, end));
     let fed = reader.feed(rest(payload, end));
@@ -110,13 +139,13 @@ pub fn feed(payload: &[u8], out: &mut [u8]) -> usize {
     let place = next.place;
     let body = next.body;
     let event = fed.event;
-    let told = put_place(place, &body, out);
-    let counted = put_size(fed.used, out, told);
-    put_event(event, &body, out, counted)
+    say_place(place, &body);
+    say_number(fed.used as u64);
+    say_event(event, &body)
 }
 
 // The same, with the 255 bytes lent.
-pub fn listen(payload: &[u8], out: &mut [u8]) -> usize {
+pub fn listen(payload: &[u8]) {
     let end = 19 + half_at(payload, 17);
     let reader = reader_of(payload, part(payload, 19, end));
     let place = reader.place;
@@ -124,34 +153,18 @@ pub fn listen(payload: &[u8], out: &mut [u8]) -> usize {
     let went = place.listen(rest(payload, end), &mut body);
     let next = went.place;
     let event = went.event;
-    let told = put_place(next, &body, out);
-    let counted = put_size(went.used, out, told);
-    put_event(event, &body, out, counted)
+    say_place(next, &body);
+    say_number(went.used as u64);
+    say_event(event, &body)
 }
 
-// A heard part of a capture: the reader, how many events it gave, and where they end in the answer.
-struct Hearing {
-    reader: Reader,
-    events: u64,
-    end: usize,
-}
-
-// What a block gave, laid behind what was laid before.
-fn told(reader: Reader, event: Event, events: u64, end: usize, out: &mut [u8]) -> Hearing {
+// An event where there is one; how many there are by then.
+fn told(event: Event, body: &[u8; 255], events: u64) -> u64 {
     if let Event::Nothing = event {
-        return Hearing {
-            reader,
-            events,
-            end,
-        };
+        return events;
     }
-    let body = reader.body;
-    let behind = put_event(event, &body, out, end);
-    Hearing {
-        reader,
-        events: std::num::wrapping_add_u64(events, 1),
-        end: behind,
-    }
+    say_event(event, body);
+    std::num::wrapping_add_u64(events, 1)
 }
 
 // Where a block of at most so many bytes ends. A size of 0 is none.
@@ -169,23 +182,20 @@ fn block_end(at: usize, size: usize, length: usize) -> usize
 }
 
 // Block size and capture; its events from a fresh reader, and how many they are.
-pub fn hear(payload: &[u8], out: &mut [u8]) -> usize {
+pub fn hear(payload: &[u8]) {
     let size = half_at(payload, 0);
-    let mut hearing = Hearing {
-        reader: Reader::new(),
-        events: 0,
-        end: 0,
-    };
+    let mut reader = Reader::new();
+    let mut events = 0;
     let mut at = 2;
     while at < payload.len() {
         let stop = block_end(at, size, payload.len());
-        let reader = hearing.reader;
         let fed = reader.feed(&payload[at..stop]);
         let next = fed.reader;
         let event = fed.event;
-        let heard = told(next, event, hearing.events, hearing.end, out);
-        hearing = heard;
+        let body = next.body;
+        events = told(event, &body, events);
+        reader = next;
         at += fed.used;
     }
-    put_number(hearing.events, out, hearing.end)
+    say_number(events)
 }

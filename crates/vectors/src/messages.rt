@@ -1,88 +1,96 @@
-// Cases of messages read.
-use crate::answers::put_address;
-use crate::answers::put_bytes;
-use crate::answers::put_good;
-use crate::answers::put_number;
-use crate::answers::put_reading;
-use crate::answers::put_refusal;
-use crate::answers::put_word;
+// Cases of messages.
+use crate::payload::address_at;
+use crate::payload::byte_at;
 use crate::payload::part;
 use crate::payload::rest;
 use crate::payload::role_at;
+use crate::words::say_address;
+use crate::words::say_bytes;
+use crate::words::say_good;
+use crate::words::say_number;
+use crate::words::say_reading;
+use crate::words::say_refusal;
+use crate::words::say_small;
+use crate::words::say_tagged;
 use message::Load;
 use message::Message;
 use message::Received;
 use message::What;
-use room::lay_byte;
+use room::Written;
 use weight::Reading;
 
-fn put_tag_and_byte(tag: u8, byte: u8, out: &mut [u8], at: usize) -> usize {
-    let tagged = lay_byte(tag, out, at);
-    lay_byte(byte, out, tagged)
+fn say_text(tag: u8, number: u8, bytes: &[u8]) {
+    say_tagged(tag, number as u64);
+    say_bytes(bytes)
 }
 
-fn put_tag_and_word(tag: u8, word: u32, out: &mut [u8], at: usize) -> usize {
-    let tagged = lay_byte(tag, out, at);
-    put_word(word, out, tagged)
-}
-
-fn put_weight(load: Load, reading: Reading, out: &mut [u8], at: usize) -> usize {
+fn load_number(load: Load) -> u8 {
     match load {
-        Load::Net => {
-            let loaded = put_tag_and_byte(4, 0, out, at);
-            put_reading(reading, out, loaded)
-        }
-        Load::Gross => {
-            let loaded = put_tag_and_byte(4, 1, out, at);
-            put_reading(reading, out, loaded)
-        }
+        Load::Net => 0,
+        Load::Gross => 1,
     }
 }
 
-// What a message says: a tag, and its fields. A text, and the bytes of an event, are told as they stand in the body.
-fn put_what(what: What, body: &[u8], out: &mut [u8], at: usize) -> usize {
+fn say_weight(load: Load, reading: Reading) {
+    say_tagged(4, load_number(load) as u64);
+    say_reading(reading)
+}
+
+fn say_inputs(bits: u32, on: u32) {
+    say_tagged(5, bits as u64);
+    say_number(on as u64)
+}
+
+// What is one number, and its kind.
+fn say_one(what: What) {
     match what {
-        What::Nothing => lay_byte(0, out, at),
-        What::Serial(serial) => put_tag_and_word(1, serial, out, at),
-        What::Number(number) => put_tag_and_byte(2, number, out, at),
-        What::Status(status) => put_tag_and_byte(3, status, out, at),
-        What::Weight(load, reading) => put_weight(load, reading, out, at),
-        What::Inputs { bits, on } => {
-            let told = put_tag_and_word(5, bits, out, at);
-            put_word(on, out, told)
-        }
-        What::Outputs(bits) => put_tag_and_word(6, bits, out, at),
-        What::Text { number, from, to } => {
-            let told = put_tag_and_byte(7, number, out, at);
-            put_bytes(part(body, from, to), out, told)
-        }
-        What::Event { event, from, to } => {
-            let told = put_tag_and_byte(8, event, out, at);
-            put_bytes(part(body, from, to), out, told)
-        }
-        What::Adc(number) => {
-            let told = lay_byte(9, out, at);
-            put_number(number, out, told)
-        }
-        What::Error(error) => put_tag_and_byte(10, error, out, at),
+        What::Serial(serial) => say_tagged(1, serial as u64),
+        What::Number(number) => say_tagged(2, number as u64),
+        What::Status(status) => say_tagged(3, status as u64),
+        What::Outputs(bits) => say_tagged(6, bits as u64),
+        What::Adc(number) => say_tagged(9, number),
+        What::Error(error) => say_tagged(10, error as u64),
+        _ => say_small(0),
     }
 }
 
-fn put_message(message: Message, body: &[u8], out: &mut [u8]) -> usize {
+// What a message says: its kind, and its fields. A text, and the bytes of an event, are told as they stand in the body.
+fn say_what(what: What, body: &[u8]) {
+    match what {
+        What::Weight(load, reading) => say_weight(load, reading),
+        What::Inputs { bits, on } => say_inputs(bits, on),
+        What::Text { number, from, to } => say_text(7, number, part(body, from, to)),
+        What::Event { event, from, to } => say_text(8, event, part(body, from, to)),
+        _ => say_one(what),
+    }
+}
+
+fn say_message(message: Message, body: &[u8]) {
     let address = message.address;
     let what = message.what;
-    let good = put_good(out, 0);
-    let addressed = put_address(address, out, good);
-    let coded = lay_byte(message.code, out, addressed);
-    let told = put_bytes(part(body, message.from, message.to), out, coded);
-    put_what(what, body, out, told)
+    say_good();
+    say_address(address);
+    say_small(message.code);
+    say_bytes(part(body, message.from, message.to));
+    say_what(what, body)
 }
 
 // Role and body; address, code, data and what they say.
-pub fn read(payload: &[u8], out: &mut [u8]) -> usize {
+pub fn read(payload: &[u8]) {
     let body = rest(payload, 1);
     match message::read(role_at(payload, 0), body) {
-        Received::Message(message) => put_message(message, body, out),
-        Received::Refused(why) => put_refusal(why, out, 0),
+        Received::Message(message) => say_message(message, body),
+        Received::Refused(why) => say_refusal(why),
     }
+}
+
+// Role, address, code, data and lent room.
+pub fn write(payload: &[u8], room: &mut [u8]) -> Written {
+    message::write(
+        role_at(payload, 0),
+        address_at(payload, 1),
+        byte_at(payload, 6),
+        rest(payload, 7),
+        room,
+    )
 }

@@ -1,28 +1,19 @@
 -- `vectors::main` is safe and ends. The measure is the number of turns that are left.
--- What holds from turn to turn: the answers' room has its 65,536 bytes.
-use mathlib.Core.Path.{_≡_, sym}
-use lib.ListN.{length}
 use borrow.Author.Needs.{needs}
 use Rattle.vectors.proofs.main.Statement.{statement}
 use Rattle.vectors.proofs.main.Tie as tie
 
 abbrev Inv-loop : tie.InvT-loop
-Inv-loop out₀ turns₀ out turns = length out ≡ 65536
+Inv-loop turns₀ turns = Unit {0}
 
 abbrev μ-loop : tie.MeasureT-loop
-μ-loop out₀ turns₀ out turns = turns
-
-large-buffer-requires : tie.Need-large-buffer-requires Inv-loop μ-loop
-large-buffer-requires c κs = search needs
+μ-loop turns₀ turns = turns
 
 loop-holds : tie.Need-loop-holds Inv-loop μ-loop
 loop-holds c = search needs
 
 sub-turns : tie.Need-sub-turns Inv-loop μ-loop
 sub-turns c = search needs
-
-slice-aggregate-run-case : tie.Need-slice-aggregate-run-case Inv-loop μ-loop
-slice-aggregate-run-case c = search needs
 
 run-case-requires : tie.Need-run-case-requires Inv-loop μ-loop
 run-case-requires c κs = search needs
@@ -48,10 +39,8 @@ main-spec =
     (tie.spec
     Inv-loop
     μ-loop
-    large-buffer-requires
     loop-holds
     sub-turns
-    slice-aggregate-run-case
     run-case-requires
     loop-less
     loop-again

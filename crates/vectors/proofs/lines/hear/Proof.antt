@@ -1,23 +1,17 @@
 -- `vectors::hear` is safe and ends: each turn goes on inside the capture.
 -- Why: a block that is not empty is heard by at least one byte, and never past its end.
 use Prim.Native.Nat.{_-_}
-use mathlib.Core.Path.{_≡_}
 use native.Mathlib.Omega.{arith}
-use borrow.Author.Needs.{needs}
 use lib.ListN.{length, length-take, length-drop}
+use borrow.Author.Needs.{needs}
 use Rattle.vectors.proofs.lines.hear.Statement.{statement}
 use Rattle.vectors.proofs.lines.hear.Tie as tie
-use Rattle.vectors.proofs.lines.hear.Reads as reads
-use Rattle.vectors.proofs.lines.hear.Lts as lts
-use Rattle.line.proofs.reading.Reader.feed.Reads as feed-reads
-use Rattle.vectors.proofs.lines.block_end.Reads as block-end-reads
 
--- the answer's room stays as long as it was lent
 abbrev Inv-loop : tie.InvT-loop
-Inv-loop payload out₀ size hearing₀ at₀ out hearing at = length out ≡ length out₀
+Inv-loop payload size reader₀ events₀ at₀ reader events at = Unit {0}
 
 abbrev μ-loop : tie.MeasureT-loop
-μ-loop payload out₀ size hearing₀ at₀ out hearing at = length payload - at
+μ-loop payload size reader₀ events₀ at₀ reader events at = length payload - at
 
 half-at-requires : tie.Need-half-at-requires Inv-loop μ-loop
 half-at-requires c κs = search needs
@@ -41,25 +35,22 @@ part-feed-end : tie.Need-part-feed-end Inv-loop μ-loop
 part-feed-end c = omega arith
 
 feed-requires : tie.Need-feed-requires Inv-loop μ-loop
-feed-requires c κs = tt
+feed-requires c κs = search needs
 
 told-requires : tie.Need-told-requires Inv-loop μ-loop
-told-requires c κs = tt
+told-requires c κs = search needs
 
 add-at : tie.Need-add-at Inv-loop μ-loop
 add-at c = omega arith
 
 loop-less : tie.Need-loop-less Inv-loop μ-loop
-loop-less c = omega (arith, c .before .before .before .before .before .before .feed .ensures .forward (simp (length-take, length-drop) (omega arith)))
+loop-less c = omega (arith, c .before .before .before .before .before .feed .ensures .forward (simp (length-take, length-drop) (omega arith)))
 
 loop-again : tie.Need-loop-again Inv-loop μ-loop
 loop-again c = search needs
 
-put-number-requires : tie.Need-put-number-requires Inv-loop μ-loop
-put-number-requires c κs = tt
-
-same-length : tie.Need-same-length Inv-loop μ-loop
-same-length c = search needs
+say-number-requires : tie.Need-say-number-requires Inv-loop μ-loop
+say-number-requires c κs = search needs
 
 returns : tie.Need-returns Inv-loop μ-loop
 returns c = search needs
@@ -82,6 +73,5 @@ hear-spec =
     add-at
     loop-less
     loop-again
-    put-number-requires
-    same-length
+    say-number-requires
     returns)
