@@ -1,10 +1,8 @@
 """Cases as the program reads and answers them, which runs them through the proved functions.
 
-A case is bytes: one of its function, two of its payload's length and two of its
-room's, the payload, and the room as it is lent. All numbers are low byte first.
-A payload has its fixed numbers first, the lengths of its byte strings among
-them, and the strings behind them. An answer is a line of words. README.md has
-the layouts.
+A case is bytes: one of its function, its text with two bytes of length ahead,
+for a writer the room as it is lent in the same way, and then its numbers, low
+byte first. An answer is a line of words. README.md has the layouts.
 
 `RUN` is the one list of what is run: a function of the cases, and under which
 number and in which layouts. What is not in it is not run.
@@ -23,52 +21,60 @@ from cases import words_of
 import message
 from refusals import ACCEPTED
 
-LONGEST = 4096  # of a payload, and of a room
+LONGEST = 4096  # of a text, and of a room
 FIRST_WRITER = 23  # from this number on a function is lent room: the last of its inputs
 PHASES = cases_line.PHASES
 BLOCK_SIZES = (0, 1, 2, 7, 64)  # of a capture; 0 is the whole of it at once
 NOTHING, TOLD, REFUSED = 0, 1, 2  # how an answer of three kinds starts
 
-# `payload` turns the inputs into bytes, `answer` the answer into what is told of it.
-Layout = namedtuple('Layout', 'number payload answer')
+# `hand_in` turns the inputs into the text and the numbers, `tell` the answer into what is told of it.
+Layout = namedtuple('Layout', 'number hand_in tell')
 Vector = namedtuple('Vector', 'case given answer')
 
 
-# Payloads.
-
-def number(width, value):
-    return value.to_bytes(width, 'little')
-
+# What is handed in: a text, and numbers as bytes.
 
 def half(value):
-    return number(2, value)
+    return value.to_bytes(2, 'little')
 
 
 def word(value):
-    return number(4, value)
+    return value.to_bytes(4, 'little')
 
 
 def long(value):
-    return number(8, value)
+    return value.to_bytes(8, 'little')
 
 
-def joined(*texts):
-    return b''.join(texts)
+def string(text):
+    return half(len(text)) + text
+
+
+def text_alone(text):
+    return text, b''
+
+
+def numbers_alone(*numbers):
+    return b'', b''.join(numbers)
 
 
 def address(of):
     """0 or 1 for short or serial, and four bytes of its number."""
     kind, value = of
-    return number(1, ('short', 'serial').index(kind)) + word(value)
+    return bytes([('short', 'serial').index(kind)]) + word(value)
 
 
 def role(of):
-    return number(1, message.ROLES.index(of))
+    return bytes([message.ROLES.index(of)])
 
 
 def reading(of):
     """Minus, four bytes of the number, point, bit 6, bit 5, settled, overload."""
     return bytes([of.minus]) + word(of.number) + bytes(of[2:])
+
+
+def readings_alone(*readings):
+    return numbers_alone(*map(reading, readings))
 
 
 def place(state):
@@ -80,22 +86,37 @@ def kept(state):
     return state.kept.rstrip(b'\x00')
 
 
+def byte_to_take(before, byte):
+    return kept(before), place(before) + byte
+
+
 def block_to_feed(before, block):
-    bytes_kept = kept(before)
-    return place(before) + half(len(bytes_kept)) + bytes_kept + block
-
-
-def event(of):
-    """Its refusal or 0 for a frame, both counts, and the body."""
-    return bytes([of.number]) + long(of.wire) + long(of.count) + of.body
+    return kept(before) + block, half(len(kept(before))) + place(before)
 
 
 def to_write(of, code, data):
-    return address(of) + code + data
+    return data, address(of) + code
+
+
+def message_to_write(spoken, of, code, data):
+    return data, role(spoken) + address(of) + code
+
+
+def event(of):
+    """Its refusal or 0 for a frame, and both counts. The body is the text."""
+    return bytes([of.number]) + long(of.wire) + long(of.count)
+
+
+def to_note(time, spoken, of):
+    return of.body, long(time) + role(spoken) + event(of)
+
+
+def to_list(count, of):
+    return of.body, long(count) + event(of)
 
 
 def record(time, kind, short, serial, status, weight):
-    return long(time) + bytes([kind, short]) + word(serial) + bytes([status]) + weight
+    return numbers_alone(long(time), bytes([kind, short]), word(serial), bytes([status]), weight)
 
 
 # Answers: what is told, for `words_of`.
@@ -133,10 +154,6 @@ def event_told(of):
     if of.number:
         return REFUSED, of.number, of.wire, of.count
     return TOLD, of.wire, of.count, of.body
-
-
-def taken_told(after, given):
-    return state_told(after), event_told(given)
 
 
 def fed_told(after, taken, given):
@@ -206,45 +223,45 @@ def received(of, code, data, what):
 
 
 FRAME_RUN = {
-    'fed': [Layout(1, joined, byte_told)],
-    'register_of': [Layout(2, joined, byte_told)],
-    'check_of': [Layout(3, joined, byte_told)],
-    'address_is_legal': [Layout(4, address, as_it_is)],
-    'judge_heard': [Layout(5, joined, as_it_is)],
-    'open_body': [Layout(6, joined, or_refused(opened))],
-    'room_needed': [Layout(7, to_write, as_it_is)],
+    'fed': [Layout(1, numbers_alone, byte_told)],
+    'register_of': [Layout(2, text_alone, byte_told)],
+    'check_of': [Layout(3, text_alone, byte_told)],
+    'address_is_legal': [Layout(4, lambda of: numbers_alone(address(of)), as_it_is)],
+    'judge_heard': [Layout(5, text_alone, as_it_is)],
+    'open_body': [Layout(6, text_alone, or_refused(opened))],
+    'room_needed': [Layout(7, to_write, or_refused(as_it_is))],
     'write_frame': [Layout(23, to_write, as_it_is)],
 }
 LINE_RUN = {
-    'feed': [Layout(8, lambda before, byte: place(before) + byte + kept(before), taken_told)],
+    'feed': [Layout(8, byte_to_take, lambda after, given: fed_told(after, 1, given))],
     'feed_block': [Layout(9, block_to_feed, fed_told), Layout(10, block_to_feed, fed_told)],
 }
 WIRE_RUN = {
-    'hear': [Layout(11, lambda capture, size=size: half(size) + capture, heard_told)
+    'hear': [Layout(11, lambda capture, size=size: (capture, half(size)), heard_told)
              for size in BLOCK_SIZES],
 }
 WEIGHT_RUN = {
-    'read_reading': [Layout(12, joined, as_it_is)],
-    'reading_is_right': [Layout(13, reading, as_it_is)],
-    'write_reading': [Layout(14, reading, as_it_is)],
-    'value': [Layout(15, reading, or_refused(signed))],
-    'difference': [Layout(16, lambda gross, net: reading(gross) + reading(net), or_refused(signed))],
-    'kilograms': [Layout(17, reading, as_it_is)],
-    'inputs_on': [Layout(18, joined, as_it_is)],
+    'read_reading': [Layout(12, numbers_alone, as_it_is)],
+    'reading_is_right': [Layout(13, readings_alone, as_it_is)],
+    'write_reading': [Layout(14, readings_alone, as_it_is)],
+    'value': [Layout(15, readings_alone, or_refused(signed))],
+    'difference': [Layout(16, readings_alone, or_refused(signed))],
+    'kilograms': [Layout(17, readings_alone, as_it_is)],
+    'inputs_on': [Layout(18, numbers_alone, as_it_is)],
 }
 MESSAGE_RUN = {
-    'read_message': [Layout(19, lambda of, body: role(of) + body, or_refused(received))],
-    'write_message': [Layout(24, lambda of, *inputs: role(of) + to_write(*inputs), as_it_is)],
+    'read_message': [Layout(19, lambda spoken, body: (body, role(spoken)), or_refused(received))],
+    'write_message': [Layout(24, message_to_write, as_it_is)],
 }
 LOG_RUN = {
-    'read_record': [Layout(20, joined, as_it_is)],
-    'record_heard': [Layout(21, lambda time, of, given: long(time) + role(of) + event(given), noted)],
-    'step': [Layout(22, lambda log, at: long(at) + log, stepped)],
+    'read_record': [Layout(20, text_alone, as_it_is)],
+    'record_heard': [Layout(21, to_note, noted)],
+    'step': [Layout(22, lambda log, at: (log, long(at)), stepped)],
     'write_record': [Layout(25, record, as_it_is)],
 }
 LISTING_RUN = {
-    'write_line': [Layout(26, lambda count, given: long(count) + event(given), as_it_is)],
-    'write_total': [Layout(27, lambda *counts: joined(*map(long, counts)), as_it_is)],
+    'write_line': [Layout(26, to_list, as_it_is)],
+    'write_total': [Layout(27, lambda *counts: numbers_alone(*map(long, counts)), as_it_is)],
 }
 
 # The parts that are run. `judge_lent`, `stuffed` and `frame_of` have no public function
@@ -259,17 +276,19 @@ RUN = (
 
 def given(layout, inputs):
     """A case as the program reads it."""
-    room = b''
+    lent = b''
     if layout.number >= FIRST_WRITER:
         *inputs, room = inputs
-    payload = layout.payload(*inputs)
-    assert max(len(payload), len(room)) <= LONGEST
-    return bytes([layout.number]) + half(len(payload)) + half(len(room)) + payload + room
+        assert len(room) <= LONGEST
+        lent = string(room)
+    text, numbers = layout.hand_in(*inputs)
+    assert len(text) <= LONGEST
+    return bytes([layout.number]) + string(text) + lent + numbers
 
 
 def told(layout, answer):
     """The line that the program must write."""
-    return ' '.join(words_of((layout.number, layout.answer(*answer)))).encode('ascii')
+    return ' '.join(words_of((layout.number, layout.tell(*answer)))).encode('ascii')
 
 
 def vectors():

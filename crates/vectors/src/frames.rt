@@ -1,8 +1,7 @@
 // Cases of the check byte and of frames.
-use crate::payload::address_at;
-use crate::payload::byte_at;
-use crate::payload::part;
-use crate::payload::rest;
+use crate::given::part;
+use crate::given::take_address;
+use crate::given::take_byte;
 use crate::words::say_address;
 use crate::words::say_bytes;
 use crate::words::say_flag;
@@ -17,29 +16,29 @@ use frame::Parts;
 use room::Written;
 
 // Register and byte; the register.
-pub fn feed(payload: &[u8]) {
-    let register = check_byte::feed(byte_at(payload, 0), byte_at(payload, 1));
-    say_small(register)
+pub fn feed() {
+    let register = take_byte();
+    say_small(check_byte::feed(register, take_byte()))
 }
 
 // Bytes; the register that starts at 0 and is fed them.
-pub fn feed_all(payload: &[u8]) {
-    say_small(check_byte::feed_all(0, payload))
+pub fn feed_all(text: &[u8]) {
+    say_small(check_byte::feed_all(0, text))
 }
 
 // Bytes; their check.
-pub fn check_of(payload: &[u8]) {
-    say_small(check_byte::check_of(payload))
+pub fn check_of(text: &[u8]) {
+    say_small(check_byte::check_of(text))
 }
 
 // An address; whether it may stand in a frame.
-pub fn legal(payload: &[u8]) {
-    say_flag(frame::legal(address_at(payload, 0)))
+pub fn legal() {
+    say_flag(frame::legal(take_address()))
 }
 
 // A body that ended; its verdict.
-pub fn judge(payload: &[u8]) {
-    say_verdict(frame::judge(payload))
+pub fn judge(text: &[u8]) {
+    say_verdict(frame::judge(text))
 }
 
 fn say_parts(parts: Parts, body: &[u8]) {
@@ -51,24 +50,17 @@ fn say_parts(parts: Parts, body: &[u8]) {
 }
 
 // A lent body; its address, code and data.
-pub fn open(payload: &[u8]) {
-    match frame::open(payload) {
+pub fn open(text: &[u8]) {
+    match frame::open(text) {
         Opened::Refused(why) => say_refusal(why),
-        Opened::Parts(parts) => say_parts(parts, payload),
+        Opened::Parts(parts) => say_parts(parts, text),
     }
 }
 
-// Address, code and data; the room that their frame needs.
-pub fn room_needed(payload: &[u8]) {
-    match frame::room_needed(
-        address_at(payload, 0),
-        byte_at(payload, 5),
-        rest(payload, 6),
-    ) {
-        Needed::Refused(why) => {
-            say_refusal(why);
-            say_number(0)
-        }
+// Data, address and code; the room that their frame needs.
+pub fn room_needed(text: &[u8]) {
+    match frame::room_needed(take_address(), take_byte(), text) {
+        Needed::Refused(why) => say_refusal(why),
         Needed::Bytes(needed) => {
             say_good();
             say_number(needed as u64)
@@ -76,12 +68,7 @@ pub fn room_needed(payload: &[u8]) {
     }
 }
 
-// Address, code, data and lent room.
-pub fn write(payload: &[u8], room: &mut [u8]) -> Written {
-    frame::write(
-        address_at(payload, 0),
-        byte_at(payload, 5),
-        rest(payload, 6),
-        room,
-    )
+// Data, lent room, address and code.
+pub fn write(text: &[u8], room: &mut [u8]) -> Written {
+    frame::write(take_address(), take_byte(), text, room)
 }

@@ -1,12 +1,11 @@
 // Cases of the listener: one byte, one block, a whole capture.
-use crate::payload::byte_at;
-use crate::payload::half_at;
-use crate::payload::number_at;
-use crate::payload::part;
-use crate::payload::rest;
+use crate::given::part;
+use crate::given::take_byte;
+use crate::given::take_half;
+use crate::given::take_number;
 use crate::words::say_bytes;
 use crate::words::say_number;
-use crate::words::say_refusal;
+use crate::words::say_refused;
 use crate::words::say_small;
 use crate::words::say_tagged;
 use line::BodyPlace;
@@ -19,8 +18,8 @@ use refusal::Refusal;
 use room::lay;
 ghost use Prim.Native.Nat.{_<_, _≤_};
 
-fn phase_at(payload: &[u8], at: usize) -> Phase {
-    match byte_at(payload, at) {
+fn take_phase() -> Phase {
+    match take_byte() {
         0 => Phase::Seeking,
         1 => Phase::Delimited,
         2 => Phase::Inside,
@@ -28,14 +27,12 @@ fn phase_at(payload: &[u8], at: usize) -> Phase {
     }
 }
 
-// Seventeen bytes: phase, eight of the wire count, eight of the kept count.
-fn place_at(payload: &[u8]) -> Place {
-    let wire = number_at(payload, 1);
-    let kept = number_at(payload, 9);
+// Phase, eight bytes of the wire count, eight of the kept count.
+fn take_place() -> Place {
     Place {
-        phase: phase_at(payload, 0),
-        wire: WirePlace(wire),
-        kept: BodyPlace(kept as usize),
+        phase: take_phase(),
+        wire: WirePlace(take_number()),
+        kept: BodyPlace(take_number() as usize),
     }
 }
 
@@ -50,29 +47,23 @@ fn refusal_of(number: u8) -> Refusal {
     }
 }
 
-// Seventeen bytes: the refusal's number or 0 for a frame, eight of the wire count, eight of the kept count.
-pub fn event_at(payload: &[u8], at: usize) -> Event
-    requires { ⌜ at < 100 ⌝ }
-{
-    let number = byte_at(payload, at);
-    let wire = number_at(payload, at + 1);
-    let kept = number_at(payload, at + 9);
+// The refusal's number or 0 for a frame, eight bytes of the wire count, eight of the kept count.
+pub fn take_event() -> Event {
+    let number = take_byte();
+    let wire = WirePlace(take_number());
+    let kept = BodyPlace(take_number() as usize);
     if number == 0 {
-        return Event::Frame(WirePlace(wire), BodyPlace(kept as usize));
+        return Event::Frame(wire, kept);
     }
-    Event::Refused(
-        refusal_of(number),
-        WirePlace(wire),
-        BodyPlace(kept as usize),
-    )
+    Event::Refused(refusal_of(number), wire, kept)
 }
 
 // A state with some bytes at the front of its 255, zeros behind them.
-fn reader_of(payload: &[u8], kept: &[u8]) -> Reader {
+fn take_reader(kept: &[u8]) -> Reader {
     let mut body = [0u8; 255];
     lay(kept, &mut body, 0);
     Reader {
-        place: place_at(payload),
+        place: take_place(),
         body,
     }
 }
@@ -87,75 +78,73 @@ fn phase_number(phase: Phase) -> u8 {
 }
 
 // A state handed back: what lies behind its kept bytes is of older bodies, and is not told.
-fn say_place(place: Place, body: &[u8; 255]) {
-    let all: &[u8] = body;
+fn say_place(place: Place, body: &[u8]) {
     let kept = place.kept.0;
     let phase = place.phase;
     say_small(phase_number(phase));
     say_number(place.wire.0);
     say_number(kept as u64);
-    say_bytes(part(all, 0, kept))
+    say_bytes(part(body, 0, kept))
 }
 
-fn say_frame(wire: u64, count: usize, body: &[u8; 255]) {
-    let all: &[u8] = body;
+fn say_frame(wire: u64, count: usize, body: &[u8]) {
     say_tagged(1, wire);
     say_number(count as u64);
-    say_bytes(part(all, 0, count))
+    say_bytes(part(body, 0, count))
 }
 
 // What an event tells: its counts, and the body or the refusal's number.
-fn say_event(event: Event, body: &[u8; 255]) {
+fn say_event(event: Event, body: &[u8]) {
     match event {
         Event::Nothing => say_small(0),
         Event::Frame(wire, kept) => say_frame(wire.0, kept.0, body),
         Event::Refused(why, wire, kept) => {
-            say_small(2);
-            say_refusal(why);
+            say_refused(why);
             say_number(wire.0);
             say_number(kept.0 as u64)
         }
     }
 }
 
-// Place, byte, bytes of the state; the next state, the event.
-pub fn take(payload: &[u8]) {
-    let reader = reader_of(payload, rest(payload, 18));
-    let taken = reader.take(byte_at(payload, 17));
-    let next = taken.reader;
-    let place = next.place;
-    let body = next.body;
-    let event = taken.event;
+// The next state, the bytes taken, the event.
+fn say_heard(reader: Reader, used: usize, event: Event) {
+    let place = reader.place;
+    let body = reader.body;
     say_place(place, &body);
+    say_number(used as u64);
     say_event(event, &body)
 }
 
-// Place, bytes of the state, block; the next state, the bytes taken, the event.
-pub fn feed(payload: &[u8]) {
-    let end = 19 + half_at(payload, 17);
-    let reader = reader_of(payload, part(payload, 19, end));
-    let fed = reader.feed(rest(payload, end));
+// Bytes of the state, place, byte; the next state, the event.
+pub fn take(text: &[u8]) {
+    let reader = take_reader(text);
+    let taken = reader.take(take_byte());
+    let next = taken.reader;
+    let event = taken.event;
+    say_heard(next, 1, event)
+}
+
+// Bytes of the state and block, two bytes of how many are of the state, place; the next state, the bytes taken, the event.
+pub fn feed(text: &[u8]) {
+    let end = take_half();
+    let reader = take_reader(part(text, 0, end));
+    let fed = reader.feed(part(text, end, text.len()));
     let next = fed.reader;
-    let place = next.place;
-    let body = next.body;
     let event = fed.event;
-    say_place(place, &body);
-    say_number(fed.used as u64);
-    say_event(event, &body)
+    say_heard(next, fed.used, event)
 }
 
 // The same, with the 255 bytes lent.
-pub fn listen(payload: &[u8]) {
-    let end = 19 + half_at(payload, 17);
-    let reader = reader_of(payload, part(payload, 19, end));
+pub fn listen(text: &[u8]) {
+    let end = take_half();
+    let reader = take_reader(part(text, 0, end));
     let place = reader.place;
     let mut body = reader.body;
-    let went = place.listen(rest(payload, end), &mut body);
-    let next = went.place;
+    let went = place.listen(part(text, end, text.len()), &mut body);
+    let place = went.place;
+    let next = Reader { place, body };
     let event = went.event;
-    say_place(next, &body);
-    say_number(went.used as u64);
-    say_event(event, &body)
+    say_heard(next, went.used, event)
 }
 
 // An event where there is one; how many there are by then.
@@ -163,7 +152,8 @@ fn told(event: Event, body: &[u8; 255], events: u64) -> u64 {
     if let Event::Nothing = event {
         return events;
     }
-    say_event(event, body);
+    let all: &[u8] = body;
+    say_event(event, all);
     std::num::wrapping_add_u64(events, 1)
 }
 
@@ -181,15 +171,15 @@ fn block_end(at: usize, size: usize, length: usize) -> usize
     at + size
 }
 
-// Block size and capture; its events from a fresh reader, and how many they are.
-pub fn hear(payload: &[u8]) {
-    let size = half_at(payload, 0);
+// Capture and block size; its events from a fresh reader, and how many they are.
+pub fn hear(text: &[u8]) {
+    let size = take_half();
     let mut reader = Reader::new();
     let mut events = 0;
-    let mut at = 2;
-    while at < payload.len() {
-        let stop = block_end(at, size, payload.len());
-        let fed = reader.feed(&payload[at..stop]);
+    let mut at = 0;
+    while at < text.len() {
+        let stop = block_end(at, size, text.len());
+        let fed = reader.feed(&text[at..stop]);
         let next = fed.reader;
         let event = fed.event;
         let body = next.body;

@@ -1,20 +1,16 @@
 // Cases of the listing.
-use crate::lines::event_at;
-use crate::payload::number_at;
-use crate::payload::rest;
+use crate::given::take_number;
+use crate::lines::take_event;
 use room::Written;
 
-// Eight bytes of the line's number, event, body and lent room.
-pub fn write_line(payload: &[u8], room: &mut [u8]) -> Written {
-    let event = event_at(payload, 8);
-    let entry = listing::heard(event, rest(payload, 25));
-    listing::write_line(number_at(payload, 0), entry, room)
+// Body, lent room, eight bytes of the line's number, and the event.
+pub fn write_line(text: &[u8], room: &mut [u8]) -> Written {
+    let number = take_number();
+    let event = take_event();
+    listing::write_line(number, listing::heard(event, text), room)
 }
 
-// Three counts of eight bytes, and lent room.
-pub fn write_total(payload: &[u8], room: &mut [u8]) -> Written {
-    let total = number_at(payload, 0);
-    let weights = number_at(payload, 8);
-    let refused = number_at(payload, 16);
-    listing::write_total(total, weights, refused, room)
+// Lent room, and three counts of eight bytes.
+pub fn write_total(room: &mut [u8]) -> Written {
+    listing::write_total(take_number(), take_number(), take_number(), room)
 }

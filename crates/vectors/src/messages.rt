@@ -1,9 +1,8 @@
 // Cases of messages.
-use crate::payload::address_at;
-use crate::payload::byte_at;
-use crate::payload::part;
-use crate::payload::rest;
-use crate::payload::role_at;
+use crate::given::part;
+use crate::given::take_address;
+use crate::given::take_byte;
+use crate::given::take_role;
 use crate::words::say_address;
 use crate::words::say_bytes;
 use crate::words::say_good;
@@ -75,22 +74,15 @@ fn say_message(message: Message, body: &[u8]) {
     say_what(what, body)
 }
 
-// Role and body; address, code, data and what they say.
-pub fn read(payload: &[u8]) {
-    let body = rest(payload, 1);
-    match message::read(role_at(payload, 0), body) {
-        Received::Message(message) => say_message(message, body),
+// Body and role; address, code, data and what they say.
+pub fn read(text: &[u8]) {
+    match message::read(take_role(), text) {
+        Received::Message(message) => say_message(message, text),
         Received::Refused(why) => say_refusal(why),
     }
 }
 
-// Role, address, code, data and lent room.
-pub fn write(payload: &[u8], room: &mut [u8]) -> Written {
-    message::write(
-        role_at(payload, 0),
-        address_at(payload, 1),
-        byte_at(payload, 6),
-        rest(payload, 7),
-        room,
-    )
+// Data, lent room, role, address and code.
+pub fn write(text: &[u8], room: &mut [u8]) -> Written {
+    message::write(take_role(), take_address(), take_byte(), text, room)
 }

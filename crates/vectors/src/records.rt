@@ -1,34 +1,35 @@
 // Cases of log records.
-use crate::lines::event_at;
-use crate::payload::byte_at;
-use crate::payload::number_at;
-use crate::payload::rest;
-use crate::payload::role_at;
-use crate::payload::word_at;
+use crate::given::take_byte;
+use crate::given::take_number;
+use crate::given::take_role;
+use crate::given::take_word;
+use crate::lines::take_event;
 use crate::words::say_bytes;
 use crate::words::say_good;
 use crate::words::say_number;
 use crate::words::say_refusal;
+use crate::words::say_refused;
 use crate::words::say_small;
 use line::Event;
 use message::Received;
+use message::Role;
 use room::Written;
 use weighing_log::Entry;
 use weighing_log::Noted;
 use weighing_log::Record;
 use weighing_log::Stepped;
 
-// Eighteen bytes: eight of the time, kind, address, four of the serial, status, W0 W1 W2.
-fn record_at(payload: &[u8]) -> Record {
+// Eight bytes of the time, kind, address, four of the serial, status, W0 W1 W2.
+fn take_record() -> Record {
     Record {
-        time: number_at(payload, 0),
-        kind: byte_at(payload, 8),
-        address: byte_at(payload, 9),
-        serial: word_at(payload, 10),
-        status: byte_at(payload, 14),
-        w0: byte_at(payload, 15),
-        w1: byte_at(payload, 16),
-        w2: byte_at(payload, 17),
+        time: take_number(),
+        kind: take_byte(),
+        address: take_byte(),
+        serial: take_word(),
+        status: take_byte(),
+        w0: take_byte(),
+        w1: take_byte(),
+        w2: take_byte(),
     }
 }
 
@@ -43,8 +44,8 @@ fn say_record(record: Record) {
 }
 
 // Bytes; their record.
-pub fn read(payload: &[u8]) {
-    match weighing_log::read_record(payload) {
+pub fn read(text: &[u8]) {
+    match weighing_log::read_record(text) {
         Entry::Refused(why) => say_refusal(why),
         Entry::Record(record) => {
             say_good();
@@ -54,47 +55,42 @@ pub fn read(payload: &[u8]) {
 }
 
 // What an event of the line is to the log: a frame's body is read in a role, and a refusal is one.
-fn received(event: Event, payload: &[u8]) -> Received {
+fn received(role: Role, event: Event, body: &[u8]) -> Received {
     if let Event::Refused(why, _, _) = event {
         return Received::Refused(why);
     }
-    message::read(role_at(payload, 8), rest(payload, 26))
+    message::read(role, body)
 }
 
-// Eight bytes of the time, role, event and body; the record they make.
-pub fn heard(payload: &[u8]) {
-    let event = event_at(payload, 9);
-    match weighing_log::record_of(number_at(payload, 0), received(event, payload)) {
+// Body, eight bytes of the time, role and event; the record they make.
+pub fn heard(text: &[u8]) {
+    let time = take_number();
+    let role = take_role();
+    let event = take_event();
+    match weighing_log::record_of(time, received(role, event, text)) {
         Noted::Nothing => say_small(0),
         Noted::Record(record) => {
             say_small(1);
             say_record(record)
         }
-        Noted::Refused(why) => {
-            say_small(2);
-            say_refusal(why)
-        }
+        Noted::Refused(why) => say_refused(why),
     }
 }
 
-// Place and log; the record there and the place behind it.
-pub fn step(payload: &[u8]) {
-    let place = number_at(payload, 0);
-    match weighing_log::step(rest(payload, 8), place as usize) {
+// Log and place; the record there and the place behind it.
+pub fn step(text: &[u8]) {
+    match weighing_log::step(text, take_number() as usize) {
         Stepped::End => say_small(0),
         Stepped::Record(record, next) => {
             say_small(1);
             say_record(record);
             say_number(next as u64)
         }
-        Stepped::Refused(why) => {
-            say_small(2);
-            say_refusal(why)
-        }
+        Stepped::Refused(why) => say_refused(why),
     }
 }
 
-// A record and lent room.
-pub fn write(payload: &[u8], room: &mut [u8]) -> Written {
-    weighing_log::write_record(record_at(payload), room)
+// Lent room and a record.
+pub fn write(room: &mut [u8]) -> Written {
+    weighing_log::write_record(take_record(), room)
 }

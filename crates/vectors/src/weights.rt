@@ -1,6 +1,6 @@
 // Cases of weights and inputs.
-use crate::payload::byte_at;
-use crate::payload::reading_at;
+use crate::given::take_byte;
+use crate::given::take_reading;
 use crate::words::say_bits;
 use crate::words::say_bytes;
 use crate::words::say_flag;
@@ -14,12 +14,8 @@ use weight::Read;
 use weight::Value;
 
 // W0 W1 W2 CON; a reading.
-pub fn read(payload: &[u8]) {
-    let w0 = byte_at(payload, 0);
-    let w1 = byte_at(payload, 1);
-    let w2 = byte_at(payload, 2);
-    let con = byte_at(payload, 3);
-    match weight::read_bytes(w0, w1, w2, con) {
+pub fn read() {
+    match weight::read_bytes(take_byte(), take_byte(), take_byte(), take_byte()) {
         Read::Refused(why) => say_refusal(why),
         Read::Good(reading) => {
             say_good();
@@ -29,13 +25,13 @@ pub fn read(payload: &[u8]) {
 }
 
 // A reading; whether its number and its point lie in their ranges.
-pub fn legal(payload: &[u8]) {
-    say_flag(weight::is_legal(reading_at(payload, 0)))
+pub fn legal() {
+    say_flag(weight::is_legal(take_reading()))
 }
 
 // A reading; its four bytes.
-pub fn write(payload: &[u8]) {
-    match weight::to_bytes(reading_at(payload, 0)) {
+pub fn write() {
+    match weight::to_bytes(take_reading()) {
         Packed::Refused(why) => say_refusal(why),
         Packed::Bytes { w0, w1, w2, con } => {
             say_good();
@@ -64,20 +60,20 @@ fn say_value(value: Value) {
 }
 
 // A reading; its value.
-pub fn value(payload: &[u8]) {
-    say_value(weight::value_of(reading_at(payload, 0)))
+pub fn value() {
+    say_value(weight::value_of(take_reading()))
 }
 
 // Two readings; the first less the second.
-pub fn difference(payload: &[u8]) {
-    let gross = reading_at(payload, 0);
-    let net = reading_at(payload, 10);
+pub fn difference() {
+    let gross = take_reading();
+    let net = take_reading();
     say_value(weight::gross_less_net(gross, net))
 }
 
 // A reading; its kilograms.
-pub fn kilograms(payload: &[u8]) {
-    match kilograms::kilograms_of(reading_at(payload, 0)) {
+pub fn kilograms() {
+    match kilograms::kilograms_of(take_reading()) {
         Kilograms::Refused(why) => say_refusal(why),
         Kilograms::Number(float) => {
             say_good();
@@ -87,10 +83,7 @@ pub fn kilograms(payload: &[u8]) {
 }
 
 // The four bytes of the inputs; how many are on.
-pub fn inputs_on(payload: &[u8]) {
-    let first = byte_at(payload, 0);
-    let second = byte_at(payload, 1);
-    let third = byte_at(payload, 2);
-    let fourth = byte_at(payload, 3);
-    say_number(inputs::count_on(first, second, third, fourth) as u64)
+pub fn inputs_on() {
+    let on = inputs::count_on(take_byte(), take_byte(), take_byte(), take_byte());
+    say_number(on as u64)
 }

@@ -7,8 +7,12 @@ use refusal::number;
 use room::Written;
 use weight::Reading;
 
-pub fn say_number(number: u64) {
+fn blank() {
     io::write_all(STDOUT_FILENO, b" ");
+}
+
+pub fn say_number(number: u64) {
+    blank();
     io::print_decimal(STDOUT_FILENO, number);
 }
 
@@ -33,7 +37,7 @@ fn spell(bytes: &[u8]) {
 }
 
 pub fn say_bytes(bytes: &[u8]) {
-    io::write_all(STDOUT_FILENO, b" ");
+    blank();
     if bytes.len() == 0 {
         io::write_all(STDOUT_FILENO, b"-");
     }
@@ -42,13 +46,19 @@ pub fn say_bytes(bytes: &[u8]) {
 
 // Sixty-four bits, in hex.
 pub fn say_bits(bits: u64) {
-    io::write_all(STDOUT_FILENO, b" ");
+    blank();
     io::print_hex(STDOUT_FILENO, bits, 16);
 }
 
 // The paper's number of a refusal. 0 stands for none.
 pub fn say_refusal(why: Refusal) {
     say_small(number(why))
+}
+
+// How a refusal starts in an answer of three kinds: 0 for nothing, 1 for what was heard or read, 2 for a refusal.
+pub fn say_refused(why: Refusal) {
+    say_small(2);
+    say_refusal(why)
 }
 
 pub fn say_good() {

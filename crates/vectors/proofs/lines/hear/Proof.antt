@@ -8,13 +8,13 @@ use Rattle.vectors.proofs.lines.hear.Statement.{statement}
 use Rattle.vectors.proofs.lines.hear.Tie as tie
 
 abbrev Inv-loop : tie.InvT-loop
-Inv-loop payload size reader₀ events₀ at₀ reader events at = Unit {0}
+Inv-loop text size reader₀ events₀ at₀ reader events at = Unit {0}
 
 abbrev μ-loop : tie.MeasureT-loop
-μ-loop payload size reader₀ events₀ at₀ reader events at = length payload - at
+μ-loop text size reader₀ events₀ at₀ reader events at = length text - at
 
-half-at-requires : tie.Need-half-at-requires Inv-loop μ-loop
-half-at-requires c κs = search needs
+take-half-requires : tie.Need-take-half-requires Inv-loop μ-loop
+take-half-requires c κs = search needs
 
 new-requires : tie.Need-new-requires Inv-loop μ-loop
 new-requires c κs = search needs
@@ -61,7 +61,7 @@ hear-spec =
     (tie.spec
     Inv-loop
     μ-loop
-    half-at-requires
+    take-half-requires
     new-requires
     loop-holds
     block-end-requires
