@@ -109,10 +109,9 @@ fn say_event(event: Event, body: &[u8]) {
 // The next state, the bytes taken, the event.
 fn say_heard(reader: Reader, used: usize, event: Event) {
     let place = reader.place;
-    let body = reader.body;
-    say_place(place, &body);
+    say_place(place, &reader.body);
     say_number(used as u64);
-    say_event(event, &body)
+    say_event(event, &reader.body)
 }
 
 // Bytes of the state, place, byte; the next state, the event.
@@ -182,8 +181,7 @@ pub fn hear(text: &[u8]) {
         let fed = reader.feed(&text[at..stop]);
         let next = fed.reader;
         let event = fed.event;
-        let body = next.body;
-        events = told(event, &body, events);
+        events = told(event, &next.body, events);
         reader = next;
         at += fed.used;
     }
