@@ -114,7 +114,7 @@ fn say_heard(reader: Reader, used: usize, event: Event) {
     say_event(event, &reader.body)
 }
 
-// Bytes of the state, place, byte; the next state, the event.
+// Bytes of the state, place, byte; the next state, the one byte taken, the event.
 pub fn take(text: &[u8]) {
     let reader = take_reader(text);
     let taken = reader.take(take_byte());
