@@ -13,14 +13,20 @@ use Rattle.frame.specs.declared.addresses.Address.{Address}
 use Rattle.frame.specs.declared.bodies.Opened.{Opened}
 use Rattle.frame.specs.declared.writing.Needed.{Needed}
 use Rattle.frame.specs.Addresses.{legal}
-use Rattle.frame.specs.Body.{judged, openedBody}
+use Rattle.frame.specs.Body.{checkRight, judged, openedIf, openedBody}
 use Rattle.frame.specs.Writing.{neededFor, writtenFrame}
 
 pub legal-one : (address : Address) (a b : Bool) → a ≡ legal address → b ≡ legal address → a ≡ b
 legal-one address a b = one
 
+pub check-right-one : (body : List ℕ) (a b : Bool) → a ≡ checkRight body → b ≡ checkRight body → a ≡ b
+check-right-one body a b = one
+
 pub judge-one : (body : List ℕ) (a b : Verdict) → a ≡ judged body → b ≡ judged body → a ≡ b
 judge-one body a b = one
+
+pub open-checked-one : (right : Bool) (body : List ℕ) (a b : Opened) → a ≡ openedIf right body → b ≡ openedIf right body → a ≡ b
+open-checked-one right body a b = one
 
 pub open-one : (body : List ℕ) (a b : Opened) → a ≡ openedBody body → b ≡ openedBody body → a ≡ b
 open-one body a b = one

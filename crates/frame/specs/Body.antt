@@ -29,15 +29,25 @@ bodyOf address code data′ = unchecked address code data′ ++ (checkOf (unchec
 unfoldable pub short : List ℕ → Bool
 short body = ltb (length body) 3 || (eqb (getD body 0 0) 0 && ltb (length body) 6)
 
--- a body that ended: 1, 4, 5
-unfoldable pub judged : List ℕ → Verdict
-judged body =
+-- "The receiver feeds the whole body and wants 0."
+abbrev pub checkRight : List ℕ → Bool
+checkRight body = eqb (received body) 0
+
+-- a body that ended, given whether its check is right: 1, 4, 5
+abbrev pub judgedIf : Bool → List ℕ → Verdict
+judgedIf right body =
     refuseIf (short body) BodyShort
-    (refuseIf (not (eqb (received body) 0)) CheckWrong
+    (refuseIf (not right) CheckWrong
     (refuseIf (not (legal (addressIn body))) AddressIllegal
     Good))
 
+unfoldable pub judged : List ℕ → Verdict
+judged body = judgedIf (checkRight body) body
+
 -- a body that was lent: 2 ahead of them
+abbrev pub judgedLentIf : Bool → List ℕ → Verdict
+judgedLentIf right body = refuseIf (ltb 255 (length body)) BodyLong (judgedIf right body)
+
 unfoldable pub judgedLent : List ℕ → Verdict
 judgedLent body = refuseIf (ltb 255 (length body)) BodyLong (judged body)
 
@@ -55,6 +65,10 @@ partsOf body = record { address = addressIn body; code = codeIn body; from = add
 abbrev pub opening : Verdict → Parts → Opened
 opening Good parts = opened-as.Parts parts
 opening (Refused why) parts = opened-as.Refused why
+
+-- given whether its check is right: a body that a line handed out had a right one, and it isn't made again
+unfoldable pub openedIf : Bool → List ℕ → Opened
+openedIf right body = opening (judgedLentIf right body) (partsOf body)
 
 unfoldable pub openedBody : List ℕ → Opened
 openedBody body = opening (judgedLent body) (partsOf body)

@@ -8,7 +8,7 @@ ghost use mathlib.Core.Path.{_≡_};
 ghost use mathlib.Core.Bool.{false};
 ghost use Prim.Native.Nat.{_<_, _≤_};
 ghost use Rattle.frame.specs.Addresses.{addressIn, addressLength};
-ghost use Rattle.frame.specs.Body.{short, judged, partsOf, openedBody};
+ghost use Rattle.frame.specs.Body.{short, checkRight, judgedIf, judged, partsOf, openedIf, openedBody};
 
 // The most bytes a body has, its check among them. Delimiters and inserted FE bytes aren't counted.
 pub(crate) const LONGEST: usize = 255;
@@ -71,20 +71,34 @@ pub(crate) fn address_length(address: Address) -> usize
     }
 }
 
-// A body that ended, judged 1, 4, 5.
-pub fn judge(body: &[u8]) -> Verdict
-    ensures { λ r. ⌜ r ≡ judged (now (body .entry)) ⌝ }
+// Whether the check that a body ends with is right: the receiver feeds the whole body and wants 0.
+pub fn check_right(body: &[u8]) -> bool
+    ensures { λ r. ⌜ r ≡ checkRight (now (body .entry)) ⌝ }
+{
+    feed_all(0, body) == 0
+}
+
+// A body that ended, judged 1, 4, 5, given whether its check is right.
+fn judge_checked(right: bool, body: &[u8]) -> Verdict
+    ensures { λ r. ⌜ r ≡ judgedIf right (now (body .entry)) ⌝ }
 {
     if is_short(body) {
         return Verdict::Refused(Refusal::BodyShort);
     }
-    if feed_all(0, body) != 0 {
+    if !right {
         return Verdict::Refused(Refusal::CheckWrong);
     }
     if legal(address_in(body)) {
         return Verdict::Good;
     }
     Verdict::Refused(Refusal::AddressIllegal)
+}
+
+// A body that ended, judged 1, 4, 5.
+pub fn judge(body: &[u8]) -> Verdict
+    ensures { λ r. ⌜ r ≡ judged (now (body .entry)) ⌝ }
+{
+    judge_checked(check_right(body), body)
 }
 
 fn parts_of(body: &[u8]) -> Parts
@@ -101,15 +115,23 @@ fn parts_of(body: &[u8]) -> Parts
     }
 }
 
-// A lent body, judged 2, 1, 4, 5 and taken apart.
-pub fn open(body: &[u8]) -> Opened
-    ensures { λ r. ⌜ r ≡ openedBody (now (body .entry)) ⌝ }
+// A lent body, judged 2, 1, 4, 5 and taken apart, given whether its check is right. The check of a body that a line handed out
+// was found right there: it need not be made again.
+pub fn open_checked(right: bool, body: &[u8]) -> Opened
+    ensures { λ r. ⌜ r ≡ openedIf right (now (body .entry)) ⌝ }
 {
     if LONGEST < body.len() {
         return Opened::Refused(Refusal::BodyLong);
     }
-    match judge(body) {
+    match judge_checked(right, body) {
         Verdict::Refused(why) => Opened::Refused(why),
         Verdict::Good => Opened::Parts(parts_of(body)),
     }
+}
+
+// A lent body, judged 2, 1, 4, 5 and taken apart.
+pub fn open(body: &[u8]) -> Opened
+    ensures { λ r. ⌜ r ≡ openedBody (now (body .entry)) ⌝ }
+{
+    open_checked(check_right(body), body)
 }

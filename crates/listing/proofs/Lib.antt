@@ -1,6 +1,7 @@
 pub mod Assembled
 pub mod Decimals
 pub mod Examples
+pub mod Handed
 pub mod Lengths
 pub mod Listed
 pub mod OneAnswer

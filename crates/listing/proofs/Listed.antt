@@ -2,6 +2,7 @@
 -- Why: the event is the one that the arm names, and what is read of a frame is the front of the lent bytes.
 use Prim.Native.Nat.{ℕ}
 use mathlib.Core.Path.{_≡_, refl}
+use mathlib.Core.Bool.{true}
 use mathlib.Core.List.{List, [], _∷_}
 use types.Run.{OneOf, miss}
 use denote.Enum.Declared.{tagOf}
@@ -17,10 +18,10 @@ use Rattle.message.specs.declared.meaning.What.{What}
 use Rattle.message.specs.declared.meaning.What.the-variants as says
 use Rattle.message.proofs.meaning.What.{the-type}
 use Rattle.message.specs.declared.reading.Received.{Received}
-use Rattle.message.specs.Reading.{readMessage}
+use Rattle.message.specs.Reading.{readIf}
 use Rattle.listing.specs.declared.entries.Entry.{Entry}
 use Rattle.listing.specs.declared.entries.Entry.the-variants.{Message}
-use Rattle.listing.specs.Entries.{messageEntry, entryOf, entryHeard}
+use Rattle.listing.specs.Entries.{messageEntry, entryOf, entryGiven}
 
 -- the constructors that are no weight
 abbrev others : List ℕ
@@ -42,6 +43,6 @@ no-weight address code (says.Error error) other = refl
 
 -- a frame, of which the front of the lent bytes was read
 pub frame-entry : {event : Event} (wire : WirePlace) (place : BodyPlace) (body : List ℕ) {part : List ℕ} {received : Received} {entry : Entry} → event ≡ Frame wire place
-    → part ≡ take (place .0) body → received ≡ readMessage Reply part → entry ≡ entryOf received → entry ≡ entryHeard (heardAs event body)
-unfolding entryHeard
+    → part ≡ take (place .0) body → received ≡ readIf true Reply part → entry ≡ entryOf received → entry ≡ entryGiven (heardAs event body)
+unfolding entryGiven
 frame-entry wire place body is-frame front was-read listed = rw (listed, was-read, front, is-frame)

@@ -10,10 +10,10 @@ use Rattle.room.proofs.OneAnswer.{leaves-one}
 use Rattle.line.specs.declared.places.Event.{Event}
 use Rattle.line.specs.Readers.{heardAs}
 use Rattle.listing.specs.declared.entries.Entry.{Entry}
-use Rattle.listing.specs.Entries.{entryHeard}
+use Rattle.listing.specs.Entries.{entryGiven}
 use Rattle.listing.specs.Writing.{writtenLine, writtenTotal}
 
-pub heard-one : (event : Event) (body : List ℕ) (a b : Entry) → a ≡ entryHeard (heardAs event body) → b ≡ entryHeard (heardAs event body) → a ≡ b
+pub heard-one : (event : Event) (body : List ℕ) (a b : Entry) → a ≡ entryGiven (heardAs event body) → b ≡ entryGiven (heardAs event body) → a ≡ b
 heard-one event body a b = one
 
 pub write-line-one : (number : ℕ) (entry : Entry) (room : List ℕ) (a b : Written) (l m : List ℕ)

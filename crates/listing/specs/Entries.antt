@@ -9,7 +9,7 @@ use Rattle.message.specs.declared.meaning.What.{What}
 use Rattle.message.specs.declared.meaning.What.the-variants as says
 use Rattle.message.specs.declared.reading.Received.{Received}
 use Rattle.message.specs.declared.reading.Received.the-variants as received-as
-use Rattle.message.specs.Reading.{readMessage}
+use Rattle.message.specs.Reading.{readIf, readMessage}
 use Rattle.listing.specs.declared.entries.Entry.{Entry}
 use Rattle.listing.specs.declared.entries.Entry.the-variants.{Nothing, Weight, Message, Refused}
 
@@ -37,6 +37,13 @@ unfoldable pub entryHeard : Heard → Entry
 entryHeard nothing = Nothing
 entryHeard (frame wire kept body) = entryOf (readMessage Reply body)
 entryHeard (refused why wire kept) = Refused why
+
+-- the same without the check made again: a line hands out a body only where its check is right, so of what it hands out the two are one
+-- (law `handed-out`)
+unfoldable pub entryGiven : Heard → Entry
+entryGiven nothing = Nothing
+entryGiven (frame wire kept body) = entryOf (readIf true Reply body)
+entryGiven (refused why wire kept) = Refused why
 
 -- "A reading handed in with a number above 999,999 or a point above 7 is refusal 8 wherever it is used."
 abbrev pub sound : Entry → Bool

@@ -5,12 +5,12 @@ use message::Load;
 use message::Received;
 use message::Role;
 use message::What;
-use message::read;
+use message::read_checked;
 use refusal::Refusal;
 use weight::Reading;
 ghost use mathlib.Core.Path.{_≡_};
 ghost use Rattle.line.specs.Readers.{heardAs};
-ghost use Rattle.listing.specs.Entries.{messageEntry, entryOf, entryHeard};
+ghost use Rattle.listing.specs.Entries.{messageEntry, entryOf, entryGiven};
 
 // What is to be listed.
 pub enum Entry {
@@ -45,9 +45,9 @@ fn entry_of(received: Received) -> Entry
 }
 
 // An event as it is to be listed. The body of a frame stands at the front of `body`, as the reader leaves it, and is read as a
-// reply; of any other event `body` is not looked at.
+// reply, its check not made again; of any other event `body` is not looked at.
 pub fn heard(event: Event, body: &[u8]) -> Entry
-    ensures { λ r. ⌜ r ≡ entryHeard (heardAs event (now (body .entry))) ⌝ }
+    ensures { λ r. ⌜ r ≡ entryGiven (heardAs event (now (body .entry))) ⌝ }
 {
     match event {
         Event::Nothing => Entry::Nothing,
@@ -55,9 +55,9 @@ pub fn heard(event: Event, body: &[u8]) -> Entry
         Event::Frame(_, place) => {
             let kept = place.0;
             if body.len() < kept {
-                return entry_of(read(Role::Reply, body));
+                return entry_of(read_checked(Role::Reply, true, body));
             }
-            entry_of(read(Role::Reply, &body[0..kept]))
+            entry_of(read_checked(Role::Reply, true, &body[0..kept]))
         }
     }
 }

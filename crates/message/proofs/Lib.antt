@@ -1,4 +1,5 @@
 pub mod Bytes
+pub mod Checked
 pub mod Opening
 pub mod Order
 pub mod OneAnswer

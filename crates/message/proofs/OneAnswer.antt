@@ -2,6 +2,7 @@
 -- Why: each is an equation with a definition; a write's has one for the answer and one for the room.
 use Prim.Native.Nat.{ℕ}
 use mathlib.Core.Path.{_≡_}
+use mathlib.Core.Bool.{Bool}
 use mathlib.Core.List.{List}
 use Rattle.refusal.proofs.OneAnswer.{one}
 use Rattle.room.specs.declared.Written.{Written}
@@ -10,8 +11,11 @@ use Rattle.room.proofs.OneAnswer.{leaves-one}
 use Rattle.frame.specs.declared.addresses.Address.{Address}
 use Rattle.message.specs.declared.table.Role.{Role}
 use Rattle.message.specs.declared.reading.Received.{Received}
-use Rattle.message.specs.Reading.{readMessage}
+use Rattle.message.specs.Reading.{readIf, readMessage}
 use Rattle.message.specs.Writing.{writtenMessage}
+
+pub read-checked-one : (role : Role) (right : Bool) (body : List ℕ) (a b : Received) → a ≡ readIf right role body → b ≡ readIf right role body → a ≡ b
+read-checked-one role right body a b = one
 
 pub read-one : (role : Role) (body : List ℕ) (a b : Received) → a ≡ readMessage role body → b ≡ readMessage role body → a ≡ b
 read-one role body a b = one

@@ -2,6 +2,7 @@
 -- Why: the parts of a good body are where its code and data stand, and a refusal stays the first one met.
 use Prim.Native.Nat.{ℕ, zero, suc, _+_, _-_, _≤_}
 use mathlib.Core.Path.{_≡_, _∙_, refl, sym, ap}
+use mathlib.Core.Bool.{Bool, false}
 use mathlib.Core.List.{List, [], _∷_}
 use native.Mathlib.Nat.{sub-zero, zero-sub, suc-sub-suc}
 use native.Mathlib.Omega.{arith}
@@ -16,16 +17,15 @@ use Rattle.refusal.proofs.Verdicts.{test-passed, rest-passed}
 use Rattle.frame.specs.declared.bodies.Parts.{Parts}
 use Rattle.frame.specs.declared.bodies.Opened.the-variants as opened-as
 use Rattle.frame.specs.Addresses.{addressIn, addressLength}
-use Rattle.frame.specs.Body.{judged, judgedLent, codeIn, dataIn, partsOf, opening, openedBody}
-use Rattle.frame.proofs.Rebuilding.{lent-good, lent-at-most}
-use Rattle.frame.proofs.Shortness.{address-inside, good-not-short}
+use Rattle.frame.specs.Body.{short, judgedLentIf, codeIn, dataIn, partsOf, opening, openedIf}
+use Rattle.frame.proofs.Shortness.{address-inside}
 use Rattle.message.specs.declared.table.Role.{Role}
 use Rattle.message.specs.declared.meaning.What.{What}
 use Rattle.message.specs.declared.meaning.Told.the-variants as told-as
 use Rattle.message.specs.declared.reading.Message.{Message}
 use Rattle.message.specs.declared.reading.Received.the-variants as received-as
 use Rattle.message.specs.Judging.{judgedMessage, telling, told}
-use Rattle.message.specs.Reading.{messageOf, judgedBody, readMessage}
+use Rattle.message.specs.Reading.{messageOf, readIf}
 
 -- ---- what an answer tells of its verdict
 
@@ -45,13 +45,13 @@ pub telling-refused : (verdict : Verdict) (said : What) (why : Refusal) → tell
 telling-refused Good said why e = cc
 telling-refused (Refused other) said why e = cc
 
--- ---- a good body
+-- ---- a body that is not short
 
 -- where its data stand: behind the code, up to the check
-pub data-end : (body : List ℕ) → judgedLent body ≡ Good → addressLength (addressIn body) + 1 + length (dataIn body) ≡ length body - 1
+pub data-end : (body : List ℕ) → short body ≡ false → addressLength (addressIn body) + 1 + length (dataIn body) ≡ length body - 1
 unfolding dataIn
-data-end body good =
-    let inside = address-inside body (good-not-short body (lent-good body good)) in
+data-end body long =
+    let inside = address-inside body long in
     omega (arith, length-slice (addressLength (addressIn body) + 1) (length body - 1) body (omega arith))
 
 -- a part of a slice as the code takes it
@@ -63,18 +63,21 @@ part (suc from) (suc to) (byte ∷ l) = rw suc-sub-suc (part from to l)
 
 -- ---- a body that was opened, or was not
 
-pub unopened : (role : Role) (body : List ℕ) (why : Refusal) → openedBody body ≡ opened-as.Refused why → received-as.Refused why ≡ readMessage role body
-unfolding openedBody readMessage judgedBody
-unopened role body why e = rw (opening-refused (judgedLent body) (partsOf body) why e)
+pub unopened : (right : Bool) (role : Role) (body : List ℕ) (why : Refusal) → openedIf right body ≡ opened-as.Refused why → received-as.Refused why ≡ readIf right role body
+unfolding openedIf readIf
+unopened right role body why e = rw (opening-refused (judgedLentIf right body) (partsOf body) why e)
 
-module _ (body : List ℕ) (parts : Parts) (opened : openedBody body ≡ opened-as.Parts parts) where
-  was-good : judgedLent body ≡ Good
-  unfolding openedBody
-  was-good = opening-good (judgedLent body) (partsOf body) parts opened .0
+module _ (right : Bool) (body : List ℕ) (parts : Parts) (opened : openedIf right body ≡ opened-as.Parts parts) where
+  was-good : judgedLentIf right body ≡ Good
+  unfolding openedIf
+  was-good = opening-good (judgedLentIf right body) (partsOf body) parts opened .0
 
   parts-are : parts ≡ partsOf body
-  unfolding openedBody
-  parts-are = opening-good (judgedLent body) (partsOf body) parts opened .1
+  unfolding openedIf
+  parts-are = opening-good (judgedLentIf right body) (partsOf body) parts opened .1
+
+  long : short body ≡ false
+  long = test-passed (short body) _ _ (rest-passed (ltb 255 (length body)) _ _ was-good)
 
   from-is : parts .from ≡ addressLength (addressIn body) + 1
   unfolding partsOf
@@ -89,11 +92,11 @@ module _ (body : List ℕ) (parts : Parts) (opened : openedBody body ≡ opened-
   code-is = ap (λ (p : Parts). p .code) parts-are
 
   inside : addressLength (addressIn body) + 2 ≤ length body
-  inside = address-inside body (good-not-short body (lent-good body was-good))
+  inside = address-inside body long
 
   -- its data stand in it
   pub from-small : parts .from ≤ 255
-  from-small = omega (arith, from-is, inside, lent-at-most body was-good)
+  from-small = omega (arith, from-is, inside, ltb-false 255 (length body) (test-passed (ltb 255 (length body)) _ _ was-good))
 
   pub in-order : parts .from ≤ parts .to
   in-order = omega (arith, from-is, to-is, inside)
@@ -112,16 +115,16 @@ module _ (body : List ℕ) (parts : Parts) (opened : openedBody body ≡ opened-
     told-body = rw (part-is, code-is, from-is)
 
     pub untold : (why : Refusal) → told role (parts .code) (parts .from) (take (parts .to - parts .from) (drop (parts .from) body)) ≡ told-as.Refused why
-        → received-as.Refused why ≡ readMessage role body
-    unfolding told readMessage judgedBody
+        → received-as.Refused why ≡ readIf right role body
+    unfolding told readIf
     untold why e =
         let verdict = telling-refused (judgedMessage role (codeIn body) (dataIn body)) _ why (sym told-body ∙ e) in
         rw (was-good, verdict)
 
     pub message-told : (what : What) → told role (parts .code) (parts .from) (take (parts .to - parts .from) (drop (parts .from) body)) ≡ told-as.What what
         → received-as.Message (record { address = parts .address; code = parts .code; from = parts .from; to = parts .to; what = what })
-        ≡ readMessage role body
-    unfolding told readMessage judgedBody messageOf partsOf
+        ≡ readIf right role body
+    unfolding told readIf messageOf partsOf
     message-told what e =
         let answer = telling-good (judgedMessage role (codeIn body) (dataIn body)) _ what (sym told-body ∙ e) in
-        rw (was-good, answer .0, answer .1, data-end body was-good, parts-are)
+        rw (was-good, answer .0, answer .1, data-end body long, parts-are)

@@ -17,6 +17,7 @@ use Rattle.frame.specs.Addresses.{legal, addressIn}
 use Rattle.frame.specs.Body.{bodyOf, judgedLent, codeIn, dataIn}
 use Rattle.frame.specs.Stuffing.{needed}
 use Rattle.frame.proofs.Rebuilding.{address-back, code-back, data-back, made-good, good-address, rebuilt, lent-good, lent-at-most}
+use Rattle.frame.proofs.Shortness.{good-not-short}
 use Rattle.message.specs.declared.table.Role.{Role}
 use Rattle.message.specs.declared.reading.Message.{Message}
 use Rattle.message.specs.declared.reading.Received.the-variants as received-as
@@ -66,7 +67,7 @@ module _ (role : Role) (body : List ℕ) (message : Message) (received : readMes
   -- where the message says its data stand, they stand
   data-are : slice (message .from) (message .to) body ≡ dataIn body
   unfolding messageOf dataIn
-  data-are = rw message-is (rw (data-end body read-lent))
+  data-are = rw message-is (rw (data-end body (good-not-short body (lent-good body read-lent))))
 
   module _ (all : T (areBytes body)) where
     rebuilt-body : bodyOf (addressIn body) (codeIn body) (dataIn body) ≡ body

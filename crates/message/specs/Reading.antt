@@ -1,13 +1,14 @@
 -- 01, "What the answers mean": "The message reader is given a role and lent body bytes; on these it judges 2 (over 255 bytes), 1, 4, 5
 -- itself, ahead of 6, and answers a number only."
 use Prim.Native.Nat.{ℕ, _+_}
+use mathlib.Core.Bool.{Bool}
 use mathlib.Core.List.{List}
 use lib.ListN.{length}
 use Rattle.refusal.specs.declared.Verdict.{Verdict}
 use Rattle.refusal.specs.declared.Verdict.the-variants.{Good, Refused}
 use Rattle.frame.specs.declared.addresses.Address.{Address}
 use Rattle.frame.specs.Addresses.{addressIn, addressLength}
-use Rattle.frame.specs.Body.{judgedLent, codeIn, dataIn}
+use Rattle.frame.specs.Body.{judgedLentIf, judgedLent, codeIn, dataIn}
 use Rattle.message.specs.declared.table.Role.{Role}
 use Rattle.message.specs.declared.reading.Message.{Message}
 use Rattle.message.specs.declared.reading.Received.{Received}
@@ -38,3 +39,9 @@ verdictOf (received-as.Refused why) = Refused why
 -- the message that a lent body holds, or the refusal it earns
 unfoldable pub readMessage : Role → List ℕ → Received
 readMessage role body = receiving (judgedBody role body) (messageOf role (addressIn body) (codeIn body) (dataIn body))
+
+-- the same of a body of which it is known whether its check is right: one that a line handed out had a right one
+unfoldable pub readIf : Bool → Role → List ℕ → Received
+readIf right role body =
+    receiving (andThen (judgedLentIf right body) (judgedMessage role (codeIn body) (dataIn body)))
+    (messageOf role (addressIn body) (codeIn body) (dataIn body))

@@ -8,6 +8,7 @@ pub use meaning::What;
 pub use reading::Message;
 pub use reading::Received;
 pub use reading::read;
+pub use reading::read_checked;
 pub use table::Load;
 pub use table::Role;
 pub use writing::write;

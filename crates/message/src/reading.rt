@@ -5,10 +5,11 @@ use crate::meaning::tell;
 use crate::table::Role;
 use frame::Address;
 use frame::Opened;
-use frame::open;
+use frame::check_right;
+use frame::open_checked;
 use refusal::Refusal;
 ghost use mathlib.Core.Path.{_≡_};
-ghost use Rattle.message.specs.Reading.{readMessage};
+ghost use Rattle.message.specs.Reading.{readIf, readMessage};
 
 // A message. Its data are the bytes of the lent body from place `from` up to, not including, place `to`: handed to the writer with
 // the same role, address and code they make the same body.
@@ -26,11 +27,12 @@ pub enum Received {
     Refused(Refusal),
 }
 
-// A lent body read in a role. Judged 2, 1, 4, 5, and then 6, 7, 8.
-pub fn read(role: Role, body: &[u8]) -> Received
-    ensures { λ r. ⌜ r ≡ readMessage role (now (body .entry)) ⌝ }
+// A lent body read in a role, given whether its check is right. Judged 2, 1, 4, 5, and then 6, 7, 8. The check of a body that a
+// line handed out was found right there: it need not be made again.
+pub fn read_checked(role: Role, right: bool, body: &[u8]) -> Received
+    ensures { λ r. ⌜ r ≡ readIf right role (now (body .entry)) ⌝ }
 {
-    match open(body) {
+    match open_checked(right, body) {
         Opened::Refused(why) => Received::Refused(why),
         Opened::Parts(parts) => {
             let address = parts.address;
@@ -49,4 +51,11 @@ pub fn read(role: Role, body: &[u8]) -> Received
             }
         }
     }
+}
+
+// A lent body read in a role. Judged 2, 1, 4, 5, and then 6, 7, 8.
+pub fn read(role: Role, body: &[u8]) -> Received
+    ensures { λ r. ⌜ r ≡ readMessage role (now (body .entry)) ⌝ }
+{
+    read_checked(role, check_right(body), body)
 }

@@ -1,64 +1,22 @@
--- `message::read` meets its contract: a lent body is judged 2, 1, 4, 5 and then 6, 7, 8, and a good one is told.
--- Why: the parts that were opened are the body's code and data, and what is told of them is told of the body.
-use mathlib.Core.Path.{_∙_, sym}
-use Rattle.message.proofs.Opening.{unopened, from-small, in-order, ends-inside, untold, message-told}
+-- `message::read` meets its contract: a lent body is read by its own check.
+-- Why: the check is judged as the receiver judges it, and the rest is the definition.
+use Rattle.message.proofs.Checked.{by-its-check}
 use borrow.Author.Needs.{needs}
 use Rattle.message.proofs.reading.read.Statement.{statement}
 use Rattle.message.proofs.reading.read.Tie as tie
 use Rattle.message.proofs.reading.read.Reads as reads
 use Rattle.message.proofs.reading.read.Lts as lts
-use Rattle.frame.proofs.open.Reads as open-reads
-use Rattle.message.proofs.meaning.tell.Reads as tell-reads
+use Rattle.frame.proofs.check_right.Reads as check-right-reads
+use Rattle.message.proofs.reading.read_checked.Reads as read-checked-reads
 
-open-requires : tie.Need-open-requires
-open-requires c κs = search needs
+check-right-requires : tie.Need-check-right-requires
+check-right-requires c κs = search needs
 
-enum-known-why : tie.Need-enum-known-why
-enum-known-why c = search needs
-
-enum-known-parts : tie.Need-enum-known-parts
-enum-known-parts c = search needs
-
-sub-tell : tie.Need-sub-tell
-sub-tell c = in-order (c .before .before .before .before .before .args .body .now) (c .before .parts .given .0 .0) (sym (c .before .before .before .open .ensures) ∙ c .before .parts .given .1)
-
-part-tell-start : tie.Need-part-tell-start
-part-tell-start c = in-order (c .before .before .before .before .before .args .body .now) (c .before .parts .given .0 .0) (sym (c .before .before .before .open .ensures) ∙ c .before .parts .given .1)
-
-part-tell-end : tie.Need-part-tell-end
-part-tell-end c = ends-inside (c .before .before .before .before .before .args .body .now) (c .before .parts .given .0 .0) (sym (c .before .before .before .open .ensures) ∙ c .before .parts .given .1)
-
-tell-requires : tie.Need-tell-requires
-tell-requires c κs = from-small (c .before .before .before .before .before .before .args .body .now) (c .before .before .parts .given .0 .0) (sym (c .before .before .before .before .open .ensures) ∙ c .before .before .parts .given .1)
-
-enum-known-why-2 : tie.Need-enum-known-why-2
-enum-known-why-2 c = search needs
-
-enum-known-what : tie.Need-enum-known-what
-enum-known-what c = search needs
+read-checked-requires : tie.Need-read-checked-requires
+read-checked-requires c κs = search needs
 
 returns : tie.Need-returns
-returns c = unopened _ _ _ (sym (c .before .before .before .open .ensures) ∙ c .before .why .given .1)
-
-returns-2 : tie.Need-returns-2
-returns-2 c = untold (c .before .before .before .before .before .before .before .before .before .before .args .body .now) (c .before .before .before .before .before .before .parts .given .0 .0) (sym (c .before .before .before .before .before .before .before .before .open .ensures) ∙ c .before .before .before .before .before .before .parts .given .1) _ _ (sym (c .before .before .before .tell .ensures) ∙ c .before .why2 .given .1)
-
-returns-3 : tie.Need-returns-3
-returns-3 c = message-told (c .before .before .before .before .before .before .before .before .before .before .args .body .now) (c .before .before .before .before .before .before .parts .given .0 .0) (sym (c .before .before .before .before .before .before .before .before .open .ensures) ∙ c .before .before .before .before .before .before .parts .given .1) _ _ (sym (c .before .before .before .tell .ensures) ∙ c .before .what .given .1)
+returns c = rw (c .read-checked .ensures, c .before .check-right .ensures) (by-its-check _ _)
 
 pub read-spec : {M : Type 1} → statement M
-read-spec =
-    tie.close
-    (tie.spec
-    open-requires
-    enum-known-why
-    enum-known-parts
-    sub-tell
-    part-tell-start
-    part-tell-end
-    tell-requires
-    enum-known-why-2
-    enum-known-what
-    returns
-    returns-2
-    returns-3)
+read-spec = tie.close (tie.spec check-right-requires read-checked-requires returns)
