@@ -1,34 +1,31 @@
--- Shown: two refusals with one number are the same refusal, so the number alone tells which it was.
--- Why: the number leads back to its refusal, case by case.
-use Prim.Native.Nat.{ℕ, zero, suc}
+-- Shown: a refusal's number names that refusal, so two refusals with one number are the same: the number alone tells which it was.
+-- Why: the row with the number of a refusal is its own, case by case.
+use Prim.Native.Nat.{ℕ}
 use mathlib.Core.Path.{_≡_, _∙_, refl, sym, ap}
 use Rattle.refusal.specs.declared.Refusal.{Refusal}
 use Rattle.refusal.specs.declared.Refusal.the-variants.{BodyShort, BodyLong, HeldBroken, CheckWrong, AddressIllegal, CodeUnknown, LengthWrong, FieldOutside, RoomShort, LogLeftOver, RecordBroken}
-use Rattle.refusal.specs.Numbers.{numberOf}
-use mathlib.Core.List.{List, [], _∷_}
-use lib.ListN.{getD}
+use Rattle.refusal.specs.declared.Named.{Named}
+use Rattle.refusal.specs.declared.Named.the-variants as named-as
+use Rattle.refusal.specs.Numbers.{numberOf, namedIn, namedOf}
 
--- the refusals in the order of their numbers, from 1
-all : List Refusal
-all = BodyShort ∷ BodyLong ∷ HeldBroken ∷ CheckWrong ∷ AddressIllegal ∷ CodeUnknown ∷ LengthWrong ∷ FieldOutside ∷ RoomShort ∷ LogLeftOver ∷ RecordBroken ∷ []
+pub named-back : (refusal : Refusal) → namedOf (numberOf refusal) ≡ named-as.Refusal refusal
+unfolding namedOf namedIn
+named-back BodyShort = refl
+named-back BodyLong = refl
+named-back HeldBroken = refl
+named-back CheckWrong = refl
+named-back AddressIllegal = refl
+named-back CodeUnknown = refl
+named-back LengthWrong = refl
+named-back FieldOutside = refl
+named-back RoomShort = refl
+named-back LogLeftOver = refl
+named-back RecordBroken = refl
 
-named : ℕ → Refusal
-unfolding all
-named n = getD (BodyShort ∷ all) n BodyShort
-
-back : (refusal : Refusal) → named (numberOf refusal) ≡ refusal
-unfolding named
-back BodyShort = refl
-back BodyLong = refl
-back HeldBroken = refl
-back CheckWrong = refl
-back AddressIllegal = refl
-back CodeUnknown = refl
-back LengthWrong = refl
-back FieldOutside = refl
-back RoomShort = refl
-back LogLeftOver = refl
-back RecordBroken = refl
+inside : Named → Refusal → Refusal
+inside (named-as.Refusal why) other = why
+inside named-as.Unknown other = other
 
 pub distinct : (a b : Refusal) → numberOf a ≡ numberOf b → a ≡ b
-distinct a b same = sym (back a) ∙ ap named same ∙ back b
+unfolding inside
+distinct a b same = ap (λ (n : Named). inside n a) (sym (named-back a) ∙ ap namedOf same ∙ named-back b)

@@ -1,9 +1,10 @@
--- Shown: the promise of this crate admits one answer, and so does every promise that is an equation with a definition.
+-- Shown: each promise of this crate admits one answer, and so does every promise that is an equation with a definition.
 -- Why: two answers that meet it are equal by way of that definition.
 use Prim.Native.Nat.{ℕ}
 use mathlib.Core.Path.{_≡_, _∙_, sym}
 use Rattle.refusal.specs.declared.Refusal.{Refusal}
-use Rattle.refusal.specs.Numbers.{numberOf}
+use Rattle.refusal.specs.declared.Named.{Named}
+use Rattle.refusal.specs.Numbers.{numberOf, namedOf}
 
 -- the law behind every `NAME-one`: two answers that are both the defined one are equal
 pub one {ℓ} : {A : Type ℓ} {defined a b : A} → a ≡ defined → b ≡ defined → a ≡ b
@@ -11,3 +12,6 @@ one p q = p ∙ sym q
 
 pub number-one : (refusal : Refusal) (a b : ℕ) → a ≡ numberOf refusal → b ≡ numberOf refusal → a ≡ b
 number-one refusal a b = one
+
+pub of-number-one : (number : ℕ) (a b : Named) → a ≡ namedOf number → b ≡ namedOf number → a ≡ b
+of-number-one number a b = one

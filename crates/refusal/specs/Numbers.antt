@@ -1,8 +1,12 @@
 -- 01, "What the answers mean": the number of each refusal, and verdicts that are reached in an order.
 use Prim.Native.Nat.{ℕ}
-use mathlib.Core.Bool.{Bool, true, false}
+use mathlib.Core.Bool.{Bool, true, false, cond}
+use mathlib.Core.List.{List, [], _∷_}
+use lib.Dec.{eqb}
 use Rattle.refusal.specs.declared.Refusal.{Refusal}
 use Rattle.refusal.specs.declared.Refusal.the-variants.{BodyShort, BodyLong, HeldBroken, CheckWrong, AddressIllegal, CodeUnknown, LengthWrong, FieldOutside, RoomShort, LogLeftOver, RecordBroken}
+use Rattle.refusal.specs.declared.Named.{Named}
+use Rattle.refusal.specs.declared.Named.the-variants as named-as
 use Rattle.refusal.specs.declared.Verdict.{Verdict}
 use Rattle.refusal.specs.declared.Verdict.the-variants.{Good, Refused}
 
@@ -19,6 +23,18 @@ numberOf FieldOutside = 8
 numberOf RoomShort = 9
 numberOf LogLeftOver = 10
 numberOf RecordBroken = 11
+
+-- the table's rows from the top: the refusals in the order of their numbers, from 1
+abbrev pub all : List Refusal
+all = BodyShort ∷ BodyLong ∷ HeldBroken ∷ CheckWrong ∷ AddressIllegal ∷ CodeUnknown ∷ LengthWrong ∷ FieldOutside ∷ RoomShort ∷ LogLeftOver ∷ RecordBroken ∷ []
+
+-- the row with a number
+unfoldable pub namedIn : List Refusal → ℕ → Named
+namedIn [] number = named-as.Unknown
+namedIn (why ∷ rows) number = cond (eqb number (numberOf why)) (named-as.Refusal why) (namedIn rows number)
+
+unfoldable pub namedOf : ℕ → Named
+namedOf number = namedIn all number
 
 -- the number of a verdict: 0 where nothing is refused
 abbrev pub verdictNumber : Verdict → ℕ

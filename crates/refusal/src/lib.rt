@@ -1,7 +1,7 @@
 // The numbered refusals of the rules paper ("What the answers mean"), and the verdict that every judge
 // of the layers above gives.
 ghost use mathlib.Core.Path.{_≡_};
-ghost use Rattle.refusal.specs.Numbers.{numberOf};
+ghost use Rattle.refusal.specs.Numbers.{numberOf, namedOf};
 
 // One case for each number of the paper's list, named by its meaning.
 pub enum Refusal {
@@ -24,6 +24,12 @@ pub enum Verdict {
     Refused(Refusal),
 }
 
+// The refusal that a number names.
+pub enum Named {
+    Refusal(Refusal),
+    Unknown, // no refusal has the number
+}
+
 // The paper's number of a refusal.
 pub fn number(refusal: Refusal) -> u8
     ensures { λ r. ⌜ r ≡ numberOf refusal ⌝ }
@@ -40,5 +46,25 @@ pub fn number(refusal: Refusal) -> u8
         Refusal::RoomShort => 9,
         Refusal::LogLeftOver => 10,
         Refusal::RecordBroken => 11,
+    }
+}
+
+// The refusal of a number, as a caller of another language or a log's record has it.
+pub fn of_number(number: u8) -> Named
+    ensures { λ r. ⌜ r ≡ namedOf number ⌝ }
+{
+    match number {
+        1 => Named::Refusal(Refusal::BodyShort),
+        2 => Named::Refusal(Refusal::BodyLong),
+        3 => Named::Refusal(Refusal::HeldBroken),
+        4 => Named::Refusal(Refusal::CheckWrong),
+        5 => Named::Refusal(Refusal::AddressIllegal),
+        6 => Named::Refusal(Refusal::CodeUnknown),
+        7 => Named::Refusal(Refusal::LengthWrong),
+        8 => Named::Refusal(Refusal::FieldOutside),
+        9 => Named::Refusal(Refusal::RoomShort),
+        10 => Named::Refusal(Refusal::LogLeftOver),
+        11 => Named::Refusal(Refusal::RecordBroken),
+        _ => Named::Unknown,
     }
 }

@@ -1,0 +1,4 @@
+pub mod Back
+pub mod Crossing
+pub mod NoNumber
+pub mod OneAnswer
