@@ -11,7 +11,7 @@ use borrow.Author.Tests.{lt-ltb}
 use lib.ListN.{length, replicate}
 use lib.Dec.{eqb}
 use Rattle.refusal.specs.declared.Verdict.the-variants.{Good}
-use Rattle.frame.specs.Body.{judged}
+use Rattle.body.specs.Body.{judged}
 use Rattle.line.specs.Listener.{Heard, frame, State, seeking, delimited, inside, held, Listener, Step, tick, keep, ended, hear, hearIn, andThen, events}
 
 -- a listener that has taken n bytes; the turn of the count at 2^64 is met here and in `ticks`, and nowhere else

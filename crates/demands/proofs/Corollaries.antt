@@ -11,7 +11,7 @@ use lib.Seq.{slice}
 use lib.Dec.{lit≤}
 use Rattle.frame.specs.Stuffing.{stuffed, countFF, framed, needed}
 use Rattle.frame.proofs.Stuffing.{stuffed-length, count-most}
-use Rattle.frame.proofs.Rebuilding.{lent-at-most, lent-good}
+use Rattle.body.proofs.Rebuilding.{lent-at-most, lent-good}
 use Rattle.line.specs.Listener.{Heard, nothing, frame, refused, fresh, events}
 use Rattle.demands.specs.Wire.{Sent, Proper, AllProper, onWire, wireOf, anyFF, heardOf, anyRefused, framesOf, NoRefusal, FromStart, OneList, OfFrameRule, ReadsBack}
 use Rattle.demands.proofs.Bytes.{clock}

@@ -2,13 +2,13 @@
 -- Why: each is computed from the definitions.
 use mathlib.Core.Path.{refl}
 use Rattle.check_byte.specs.Register.{shiftIn, feedBits, feedByte, feedAll, received}
-use Rattle.frame.specs.Addresses.{legal, addressIn, addressLength}
-use Rattle.frame.specs.Body.{short, judged, judgedLent, codeIn, dataIn}
+use Rattle.body.specs.Addresses.{legal, addressIn, addressLength}
+use Rattle.body.specs.Body.{short, judged, judgedLent, codeIn, dataIn}
 use Rattle.frame.specs.Stuffing.{stuffedByte, stuffed, framed}
 use Rattle.line.specs.Listener.{tick, keep, ended, hearIn, hear, andThen, events}
 use Rattle.weight.specs.Bytes.{legal as legalReading, readOf}
 use Rattle.weight.specs.Tenths.{valueOf}
-use Rattle.message.specs.Table.{lineIn, lineOf, rowOf}
+use Rattle.codes.specs.Table.{lineIn, lineOf, rowOf}
 use Rattle.message.specs.Fields.{readIn}
 use Rattle.message.specs.Meaning.{lowFirst}
 use Rattle.message.specs.Judging.{judgedData, judgedMessage}

@@ -14,13 +14,13 @@ use Rattle.refusal.specs.declared.Verdict.{Verdict}
 use Rattle.refusal.specs.declared.Verdict.the-variants.{Good, Refused}
 use Rattle.refusal.specs.Numbers.{numberOf, verdictNumber, refuseIf}
 use Rattle.room.specs.Writing.{wrote}
-use Rattle.frame.specs.Addresses.{addressIn}
-use Rattle.frame.specs.Body.{bodyOf, codeIn, dataIn}
+use Rattle.body.specs.Addresses.{addressIn}
+use Rattle.body.specs.Body.{bodyOf, codeIn, dataIn}
 use Rattle.frame.specs.Stuffing.{framed, needed}
-use Rattle.message.specs.declared.table.Role.{Role}
+use Rattle.codes.specs.declared.table.Role.{Role}
 use Rattle.message.specs.declared.reading.Message.{Message}
-use Rattle.message.specs.Table.{rowOf, inTable}
-use Rattle.message.specs.Lengths.{lengthOf, lengthRight}
+use Rattle.codes.specs.Table.{rowOf, inTable}
+use Rattle.codes.specs.Lengths.{lengthOf, lengthRight}
 use Rattle.message.specs.Fields.{fieldsRight}
 use Rattle.message.specs.Judging.{andThen, judgedData, judgedMessage}
 use Rattle.message.specs.Reading.{messageOf, judgedBody, receiving, readMessage, verdictOf}

@@ -9,11 +9,11 @@ use borrow.Author.Tests.{eqb-true, ne-eqb}
 use lib.ListN.{length, drop, replicate, length-append}
 use lib.Dec.{eqb}
 use Rattle.refusal.specs.declared.Verdict.the-variants.{Good}
-use Rattle.frame.specs.Body.{judged}
+use Rattle.body.specs.Body.{judged}
 use Rattle.frame.specs.Stuffing.{stuffed, stuffedByte}
 use Rattle.line.specs.Listener.{Heard, frame, seeking, delimited, inside, held, events}
 use Rattle.demands.proofs.Bytes.{clock, at, seeking-ff, seeking-other, delimited-fe, delimited-other, delimited-run, inside-ff, inside-other, held-fe, held-ff}
-use Rattle.frame.proofs.Rebuilding.{good-not-empty, first-low}
+use Rattle.body.proofs.Rebuilding.{good-not-empty, first-low}
 
 -- a body beside its stuffed form, byte by byte
 pub data Stuffed : (body wire : List ℕ) → Type 0 where

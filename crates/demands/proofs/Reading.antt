@@ -16,12 +16,12 @@ use Rattle.refusal.specs.declared.Verdict.the-variants as refusal-as
 use Rattle.refusal.proofs.Verdicts.{test-passed, rest-passed}
 use Rattle.room.specs.declared.Written.{Written}
 use Rattle.room.specs.Writing.{wrote}
-use Rattle.frame.specs.declared.addresses.Address.{Address}
-use Rattle.frame.specs.Addresses.{legal}
-use Rattle.frame.specs.Body.{bodyOf, judgedLent}
+use Rattle.body.specs.declared.addresses.Address.{Address}
+use Rattle.body.specs.Addresses.{legal}
+use Rattle.body.specs.Body.{bodyOf, judgedLent}
 use Rattle.frame.specs.Stuffing.{framed}
 use Rattle.frame.specs.Writing.{judgedFields, judgedWrite, writtenFrame}
-use Rattle.frame.proofs.Rebuilding.{made-good}
+use Rattle.body.proofs.Rebuilding.{made-good}
 use Rattle.frame.proofs.Stuffing.{framed-length}
 use Rattle.line.specs.declared.places.Event.{Event}
 use Rattle.line.specs.declared.places.Event.the-variants.{Nothing, Frame, Refused}

@@ -7,16 +7,16 @@ use mathlib.Core.List.{List, [], _∷_, _++_, map}
 use lib.ListN.{replicate}
 use lib.IntN.{ℤ, pos, negsuc}
 use Rattle.refusal.specs.declared.Refusal.the-variants.{BodyShort, BodyLong, HeldBroken, CheckWrong, CodeUnknown}
-use Rattle.frame.specs.declared.addresses.Address.the-variants.{Short}
+use Rattle.body.specs.declared.addresses.Address.the-variants.{Short}
 use Rattle.frame.specs.Stuffing.{framed}
 use Rattle.line.specs.Listener.{Heard, nothing, frame, refused, fresh, events}
 use Rattle.weight.specs.declared.Reading.{Reading}
 use Rattle.weight.specs.declared.Value.{Value}
 use Rattle.weight.specs.declared.Value.the-variants.{Tenths}
 use Rattle.weight.specs.Tenths.{valueOf}
-use Rattle.message.specs.declared.table.Role.{Role}
-use Rattle.message.specs.declared.table.Role.the-variants.{Request, Reply}
-use Rattle.message.specs.declared.table.Load.the-variants.{Net, Gross}
+use Rattle.codes.specs.declared.table.Role.{Role}
+use Rattle.codes.specs.declared.table.Role.the-variants.{Request, Reply}
+use Rattle.codes.specs.declared.table.Load.the-variants.{Net, Gross}
 use Rattle.message.specs.declared.meaning.What.{What}
 use Rattle.message.specs.declared.meaning.What.the-variants as says
 use Rattle.message.specs.declared.reading.Received.{Received}

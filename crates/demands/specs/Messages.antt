@@ -15,16 +15,16 @@ use Rattle.refusal.specs.declared.Verdict.{Verdict}
 use Rattle.refusal.specs.declared.Verdict.the-variants.{Good, Refused}
 use Rattle.refusal.specs.Numbers.{refuseIf}
 use Rattle.room.specs.Writing.{Left, wrote}
-use Rattle.frame.specs.declared.addresses.Address.{Address}
-use Rattle.frame.specs.Addresses.{legal}
-use Rattle.frame.specs.Body.{bodyOf, judgedLent, codeIn, dataIn}
+use Rattle.body.specs.declared.addresses.Address.{Address}
+use Rattle.body.specs.Addresses.{legal}
+use Rattle.body.specs.Body.{bodyOf, judgedLent, codeIn, dataIn}
 use Rattle.frame.specs.Stuffing.{framed, needed}
 use Rattle.line.specs.Listener.{frame, fresh, events}
-use Rattle.message.specs.declared.table.Role.{Role}
+use Rattle.codes.specs.declared.table.Role.{Role}
 use Rattle.message.specs.declared.reading.Message.{Message}
 use Rattle.message.specs.declared.reading.Received.the-variants as received-as
-use Rattle.message.specs.Table.{rowOf, inTable}
-use Rattle.message.specs.Lengths.{lengthOf, lengthRight}
+use Rattle.codes.specs.Table.{rowOf, inTable}
+use Rattle.codes.specs.Lengths.{lengthOf, lengthRight}
 use Rattle.message.specs.Fields.{fieldsRight}
 use Rattle.message.specs.Reading.{messageOf, readMessage, verdictOf}
 use Rattle.message.specs.Writing.{judgedMessageWrite, writtenMessage}

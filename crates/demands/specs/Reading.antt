@@ -6,8 +6,8 @@ use lib.ListN.{length, take, drop}
 use Rattle.refusal.specs.declared.Verdict.the-variants.{Good}
 use Rattle.room.specs.declared.Written.{Written}
 use Rattle.room.specs.Writing.{Leaves}
-use Rattle.frame.specs.declared.addresses.Address.{Address}
-use Rattle.frame.specs.Body.{bodyOf}
+use Rattle.body.specs.declared.addresses.Address.{Address}
+use Rattle.body.specs.Body.{bodyOf}
 use Rattle.frame.specs.Writing.{writtenFrame}
 use Rattle.line.specs.declared.places.Event.the-variants.{Nothing}
 use Rattle.line.specs.declared.reading.Reader.{Reader}

@@ -10,7 +10,7 @@ use lib.ListN.{length, take, drop, replicate}
 use lib.Seq.{slice}
 use lib.Dec.{eqb}
 use Rattle.refusal.specs.declared.Verdict.the-variants.{Good}
-use Rattle.frame.specs.Body.{judged, judgedLent}
+use Rattle.body.specs.Body.{judged, judgedLent}
 use Rattle.frame.specs.Stuffing.{stuffed, framed, needed}
 use Rattle.line.specs.Listener.{Heard, nothing, frame, refused, Listener, fresh, events, after}
 

@@ -2,34 +2,14 @@
 -- Why: each is an equation with a definition; a write's has one for the answer and one for the room.
 use Prim.Native.Nat.{ℕ}
 use mathlib.Core.Path.{_≡_}
-use mathlib.Core.Bool.{Bool}
 use mathlib.Core.List.{List}
-use Rattle.refusal.specs.declared.Verdict.{Verdict}
 use Rattle.refusal.proofs.OneAnswer.{one}
 use Rattle.room.specs.declared.Written.{Written}
 use Rattle.room.specs.Writing.{Leaves}
 use Rattle.room.proofs.OneAnswer.{leaves-one}
-use Rattle.frame.specs.declared.addresses.Address.{Address}
-use Rattle.frame.specs.declared.bodies.Opened.{Opened}
+use Rattle.body.specs.declared.addresses.Address.{Address}
 use Rattle.frame.specs.declared.writing.Needed.{Needed}
-use Rattle.frame.specs.Addresses.{legal}
-use Rattle.frame.specs.Body.{checkRight, judged, openedIf, openedBody}
 use Rattle.frame.specs.Writing.{neededFor, writtenFrame}
-
-pub legal-one : (address : Address) (a b : Bool) → a ≡ legal address → b ≡ legal address → a ≡ b
-legal-one address a b = one
-
-pub check-right-one : (body : List ℕ) (a b : Bool) → a ≡ checkRight body → b ≡ checkRight body → a ≡ b
-check-right-one body a b = one
-
-pub judge-one : (body : List ℕ) (a b : Verdict) → a ≡ judged body → b ≡ judged body → a ≡ b
-judge-one body a b = one
-
-pub open-checked-one : (right : Bool) (body : List ℕ) (a b : Opened) → a ≡ openedIf right body → b ≡ openedIf right body → a ≡ b
-open-checked-one right body a b = one
-
-pub open-one : (body : List ℕ) (a b : Opened) → a ≡ openedBody body → b ≡ openedBody body → a ≡ b
-open-one body a b = one
 
 pub room-needed-one : (address : Address) (code : ℕ) (data′ : List ℕ) (a b : Needed) → a ≡ neededFor address code data′ → b ≡ neededFor address code data′ → a ≡ b
 room-needed-one address code data′ a b = one

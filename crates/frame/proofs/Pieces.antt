@@ -13,9 +13,9 @@ use lib.Seq.{take-at, take-suc}
 use Rattle.room.specs.Laying.{Laid}
 use Rattle.room.proofs.Over.{laid-then, laid-front, laid-length, behind-fits}
 use Rattle.check_byte.specs.Register.{checkOf}
-use Rattle.frame.specs.declared.addresses.Address.{Address}
-use Rattle.frame.specs.Addresses.{addressBytes}
-use Rattle.frame.specs.Body.{unchecked, bodyOf}
+use Rattle.body.specs.declared.addresses.Address.{Address}
+use Rattle.body.specs.Addresses.{addressBytes}
+use Rattle.body.specs.Body.{unchecked, bodyOf}
 use Rattle.frame.specs.Stuffing.{stuffedByte, stuffed, framed, needed}
 use Rattle.frame.proofs.Stuffing.{stuffed-append, stuffed-one, stuffed-length}
 

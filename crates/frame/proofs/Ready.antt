@@ -19,11 +19,11 @@ use Rattle.room.specs.declared.Written.{Written}
 use Rattle.room.specs.Laying.{Laid, over}
 use Rattle.room.specs.Writing.{Leaves, refusedWrite}
 use Rattle.room.proofs.Over.{laid-front}
-use Rattle.frame.specs.declared.addresses.Address.{Address}
+use Rattle.body.specs.declared.addresses.Address.{Address}
 use Rattle.frame.specs.declared.writing.Needed.{Needed}
 use Rattle.frame.specs.declared.writing.Needed.the-variants as needed-as
-use Rattle.frame.specs.Addresses.{legal}
-use Rattle.frame.specs.Body.{bodyOf}
+use Rattle.body.specs.Addresses.{legal}
+use Rattle.body.specs.Body.{bodyOf}
 use Rattle.frame.specs.Stuffing.{framed, countFF, needed}
 use Rattle.frame.specs.Writing.{judgedFields, neededFor, needing, judgedWrite, writtenFrame}
 use Rattle.frame.specs.Preparing.{Prepared}

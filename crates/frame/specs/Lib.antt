@@ -1,5 +1,3 @@
-pub mod Addresses
-pub mod Body
 pub mod Preparing
 pub mod Stuffing
 pub mod Writing

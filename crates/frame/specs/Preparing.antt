@@ -4,9 +4,9 @@ use mathlib.Core.Path.{_≡_}
 use mathlib.Core.List.{List}
 use Rattle.refusal.specs.declared.Verdict.the-variants.{Good}
 use Rattle.room.specs.Laying.{over}
-use Rattle.frame.specs.declared.addresses.Address.{Address}
+use Rattle.body.specs.declared.addresses.Address.{Address}
 use Rattle.frame.specs.declared.writing.Needed.{Needed}
-use Rattle.frame.specs.Body.{bodyOf}
+use Rattle.body.specs.Body.{bodyOf}
 use Rattle.frame.specs.Writing.{judgedFields, neededFor}
 
 -- a body made ready in some room of our own, together with the room its frame will need

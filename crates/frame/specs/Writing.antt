@@ -9,11 +9,11 @@ use Rattle.refusal.specs.declared.Verdict.{Verdict}
 use Rattle.refusal.specs.declared.Verdict.the-variants.{Good, Refused}
 use Rattle.refusal.specs.Numbers.{refuseIf}
 use Rattle.room.specs.Writing.{Left, wrote}
-use Rattle.frame.specs.declared.addresses.Address.{Address}
+use Rattle.body.specs.declared.addresses.Address.{Address}
 use Rattle.frame.specs.declared.writing.Needed.{Needed}
 use Rattle.frame.specs.declared.writing.Needed.the-variants as needed-as
-use Rattle.frame.specs.Addresses.{legal}
-use Rattle.frame.specs.Body.{bodyOf}
+use Rattle.body.specs.Addresses.{legal}
+use Rattle.body.specs.Body.{bodyOf}
 use Rattle.frame.specs.Stuffing.{framed, needed}
 
 -- 5, then 2, then whatever comes after

@@ -1,8 +1,8 @@
 // Frame writing: one FF, the body, two FFs, and one FE after each FF inside the body.
-use crate::addresses::Address;
-use crate::addresses::legal;
-use crate::bodies::LONGEST;
-use crate::bodies::address_length;
+use body::Address;
+use body::LONGEST;
+use body::address_length;
+use body::legal;
 use check_byte::check_of;
 use refusal::Refusal;
 use refusal::Verdict;
@@ -15,8 +15,8 @@ ghost use Prim.Native.Nat.{_+_, _≤_};
 ghost use lib.ListN.{length};
 ghost use Rattle.room.specs.Laying.{Laid};
 ghost use Rattle.room.specs.Writing.{Leaves};
-ghost use Rattle.frame.specs.Addresses.{addressBytes, addressLength};
-ghost use Rattle.frame.specs.Body.{unchecked, bodyOf};
+ghost use Rattle.body.specs.Addresses.{addressBytes, addressLength};
+ghost use Rattle.body.specs.Body.{unchecked, bodyOf};
 ghost use Rattle.frame.specs.Stuffing.{stuffedByte, stuffed, framed, countFF, needed};
 ghost use Rattle.frame.specs.Writing.{neededFor, writtenFrame};
 ghost use Rattle.frame.specs.Preparing.{Prepared};

@@ -13,7 +13,7 @@ use Rattle.refusal.specs.declared.Verdict.{Verdict}
 use Rattle.refusal.specs.declared.Verdict.the-variants.{Good, Refused}
 use Rattle.room.specs.Laying.{over}
 use Rattle.room.proofs.Over.{over-length}
-use Rattle.frame.specs.Body.{judged}
+use Rattle.body.specs.Body.{judged}
 use Rattle.line.specs.declared.places.Phase.{Phase}
 use Rattle.line.specs.declared.places.Phase.the-variants.{Seeking, Delimited, Inside, Held}
 use Rattle.line.specs.declared.places.Place.{Place}

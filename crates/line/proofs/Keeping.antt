@@ -13,7 +13,7 @@ use Rattle.refusal.specs.declared.Refusal.the-variants.{BodyLong}
 use Rattle.refusal.specs.declared.Verdict.{Verdict}
 use Rattle.refusal.specs.declared.Verdict.the-variants.{Good}
 use Rattle.refusal.specs.declared.Verdict.the-variants as refusal-as
-use Rattle.frame.specs.Body.{judged}
+use Rattle.body.specs.Body.{judged}
 use Rattle.room.specs.Laying.{over}
 use Rattle.line.specs.declared.places.Phase.the-variants.{Seeking, Inside}
 use Rattle.line.specs.declared.places.Event.the-variants.{Nothing, Frame, Refused}

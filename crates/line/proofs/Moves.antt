@@ -7,7 +7,7 @@ use borrow.Author.Tests.{le-ltb, eq-eqb, ne-eqb}
 use lib.ListN.{length, take}
 use lib.Seq.{length-take-le}
 use Rattle.refusal.specs.declared.Refusal.the-variants.{HeldBroken}
-use Rattle.frame.specs.Body.{judged}
+use Rattle.body.specs.Body.{judged}
 use Rattle.line.specs.declared.places.Phase.{Phase}
 use Rattle.line.specs.declared.places.Phase.the-variants.{Seeking, Delimited, Inside, Held}
 use Rattle.line.specs.declared.places.Event.{Event}

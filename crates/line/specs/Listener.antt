@@ -8,7 +8,7 @@ use Rattle.refusal.specs.declared.Refusal.{Refusal}
 use Rattle.refusal.specs.declared.Refusal.the-variants.{BodyLong, HeldBroken}
 use Rattle.refusal.specs.declared.Verdict.{Verdict}
 use Rattle.refusal.specs.declared.Verdict.the-variants.{Good, Refused}
-use Rattle.frame.specs.Body.{judged}
+use Rattle.body.specs.Body.{judged}
 
 -- the four states; while a body is open, the bytes kept of it
 pub data State : Type 0 where

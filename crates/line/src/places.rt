@@ -1,12 +1,12 @@
 // The two counts that every event carries, and the small part of a reader's state: one byte moves it on.
-use frame::judge;
+use body::judge;
 use refusal::Refusal;
 use refusal::Verdict;
 use std::num::wrapping_add_u64;
 ghost use mathlib.Core.Path.{_≡_};
 ghost use Prim.Native.Nat.{_≤_};
 ghost use lib.ListN.{length, take};
-ghost use Rattle.frame.specs.Body.{judged};
+ghost use Rattle.body.specs.Body.{judged};
 ghost use Rattle.line.specs.Listener.{keep, ended, hear};
 ghost use Rattle.line.specs.Readers.{eventOf, listening, freshPlace};
 ghost use Rattle.line.specs.Steps.{Keeps, soundPlace};

@@ -14,14 +14,14 @@ use Rattle.room.specs.declared.Written.{Written}
 use Rattle.room.specs.Laying.{Laid}
 use Rattle.room.specs.Writing.{Leaves, refusedWrite}
 use Rattle.room.proofs.Over.{laid-front}
-use Rattle.frame.specs.declared.addresses.Address.{Address}
-use Rattle.message.specs.declared.table.Load.{Load}
+use Rattle.body.specs.declared.addresses.Address.{Address}
+use Rattle.codes.specs.declared.table.Load.{Load}
 use Rattle.weight.specs.declared.Reading.{Reading}
-use Rattle.listing.specs.declared.entries.Entry.{Entry}
-use Rattle.listing.specs.declared.entries.Entry.the-variants.{Weight}
+use Rattle.entries.specs.declared.entries.Entry.{Entry}
+use Rattle.entries.specs.declared.entries.Entry.the-variants.{Weight}
 use Rattle.listing.specs.Texts.{spelt, decimal, addressText}
 use Rattle.listing.specs.Lines.{rest, loadText, readingFields, lineOf}
-use Rattle.listing.specs.Entries.{sound}
+use Rattle.entries.specs.Entries.{sound}
 use Rattle.listing.specs.Writing.{Ahead, writtenText, writtenLine}
 use Rattle.listing.proofs.Putting.{ahead-then}
 

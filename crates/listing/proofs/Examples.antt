@@ -8,20 +8,20 @@ use Rattle.refusal.specs.declared.Refusal.the-variants.{BodyShort, RecordBroken
 use Rattle.check_byte.specs.Register.{received, feedAll, feedByte, feedBits, shiftIn}
 use Rattle.weight.specs.Bytes.{readOf}
 use Rattle.weight.specs.declared.Reading.{Reading}
-use Rattle.frame.specs.declared.addresses.Address.the-variants.{Short, Serial}
-use Rattle.frame.specs.Addresses.{legal, addressIn, addressLength}
-use Rattle.frame.specs.Body.{short, judged, judgedLent, codeIn, dataIn}
+use Rattle.body.specs.declared.addresses.Address.the-variants.{Short, Serial}
+use Rattle.body.specs.Addresses.{legal, addressIn, addressLength}
+use Rattle.body.specs.Body.{short, judged, judgedLent, codeIn, dataIn}
 use Rattle.line.specs.Listener.{fresh, events, andThen, hear, hearIn, keep, ended, tick}
-use Rattle.message.specs.declared.table.Load.the-variants.{Net}
-use Rattle.message.specs.Table.{lineIn, lineOf as rowsOf, rowOf}
+use Rattle.codes.specs.declared.table.Load.the-variants.{Net}
+use Rattle.codes.specs.Table.{lineIn, lineOf as rowsOf, rowOf}
 use Rattle.message.specs.Fields.{readIn}
 use Rattle.message.specs.Judging.{judgedData, judgedMessage}
 use Rattle.message.specs.Reading.{messageOf, judgedBody, readMessage}
-use Rattle.listing.specs.declared.entries.Entry.{Entry}
-use Rattle.listing.specs.declared.entries.Entry.the-variants.{Nothing, Weight, Message, Refused}
+use Rattle.entries.specs.declared.entries.Entry.{Entry}
+use Rattle.entries.specs.declared.entries.Entry.the-variants.{Nothing, Weight, Message, Refused}
 use Rattle.listing.specs.Texts.{spelt, decimalIn, decimal}
 use Rattle.listing.specs.Lines.{lineOf}
-use Rattle.listing.specs.Entries.{entryHeard}
+use Rattle.entries.specs.Entries.{entryHeard}
 use Rattle.listing.specs.Whole.{listing}
 
 -- E3, E4 and the first of E6, one after another

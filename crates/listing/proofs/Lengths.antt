@@ -4,12 +4,12 @@ use Prim.Native.Nat.{ℕ, _≤_}
 use native.Mathlib.Omega.{arith}
 use lib.ListN.{length, length-append}
 use Rattle.refusal.specs.Numbers.{numberOf}
-use Rattle.frame.specs.declared.addresses.Address.{Address}
-use Rattle.frame.specs.declared.addresses.Address.the-variants.{Short, Serial}
-use Rattle.message.specs.declared.table.Load.{Load}
-use Rattle.message.specs.declared.table.Load.the-variants.{Net, Gross}
-use Rattle.listing.specs.declared.entries.Entry.{Entry}
-use Rattle.listing.specs.declared.entries.Entry.the-variants.{Nothing, Weight, Message, Refused}
+use Rattle.body.specs.declared.addresses.Address.{Address}
+use Rattle.body.specs.declared.addresses.Address.the-variants.{Short, Serial}
+use Rattle.codes.specs.declared.table.Load.{Load}
+use Rattle.codes.specs.declared.table.Load.the-variants.{Net, Gross}
+use Rattle.entries.specs.declared.entries.Entry.{Entry}
+use Rattle.entries.specs.declared.entries.Entry.the-variants.{Nothing, Weight, Message, Refused}
 use Rattle.listing.specs.Texts.{addressText}
 use Rattle.listing.specs.Lines.{loadText, lineOf, totalOf}
 use Rattle.listing.proofs.Decimals.{decimal-size}

@@ -3,6 +3,5 @@ pub mod Decimals
 pub mod Examples
 pub mod Handed
 pub mod Lengths
-pub mod Listed
 pub mod OneAnswer
 pub mod Putting

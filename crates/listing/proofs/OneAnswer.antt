@@ -3,18 +3,11 @@
 use Prim.Native.Nat.{ℕ}
 use mathlib.Core.Path.{_≡_}
 use mathlib.Core.List.{List}
-use Rattle.refusal.proofs.OneAnswer.{one}
 use Rattle.room.specs.declared.Written.{Written}
 use Rattle.room.specs.Writing.{Leaves}
 use Rattle.room.proofs.OneAnswer.{leaves-one}
-use Rattle.line.specs.declared.places.Event.{Event}
-use Rattle.line.specs.Readers.{heardAs}
-use Rattle.listing.specs.declared.entries.Entry.{Entry}
-use Rattle.listing.specs.Entries.{entryGiven}
+use Rattle.entries.specs.declared.entries.Entry.{Entry}
 use Rattle.listing.specs.Writing.{writtenLine, writtenTotal}
-
-pub heard-one : (event : Event) (body : List ℕ) (a b : Entry) → a ≡ entryGiven (heardAs event body) → b ≡ entryGiven (heardAs event body) → a ≡ b
-heard-one event body a b = one
 
 pub write-line-one : (number : ℕ) (entry : Entry) (room : List ℕ) (a b : Written) (l m : List ℕ)
     → Leaves (writtenLine number entry room) a l → Leaves (writtenLine number entry room) b m → (a ≡ b) × (l ≡ m)

@@ -1,4 +1,3 @@
-pub mod Entries
 pub mod Lines
 pub mod Texts
 pub mod Writing

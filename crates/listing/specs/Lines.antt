@@ -3,11 +3,11 @@
 use Prim.Native.Nat.{ℕ}
 use mathlib.Core.List.{List, [], _∷_, _++_}
 use Rattle.refusal.specs.Numbers.{numberOf}
-use Rattle.message.specs.declared.table.Load.{Load}
-use Rattle.message.specs.declared.table.Load.the-variants.{Net, Gross}
+use Rattle.codes.specs.declared.table.Load.{Load}
+use Rattle.codes.specs.declared.table.Load.the-variants.{Net, Gross}
 use Rattle.weight.specs.declared.Reading.{Reading}
-use Rattle.listing.specs.declared.entries.Entry.{Entry}
-use Rattle.listing.specs.declared.entries.Entry.the-variants.{Nothing, Weight, Message, Refused}
+use Rattle.entries.specs.declared.entries.Entry.{Entry}
+use Rattle.entries.specs.declared.entries.Entry.the-variants.{Nothing, Weight, Message, Refused}
 use Rattle.listing.specs.Texts.{spelt, decimal, sixDigits, oneDigit, hexByte, addressText, signByte, markByte}
 
 -- behind a field of a line: each further field behind one blank, and a newline behind the last

@@ -5,8 +5,8 @@ use Prim.Native.String.{String, [] as ended, _∷_ as _before_}
 use mathlib.Core.Bool.{Bool, cond}
 use mathlib.Core.List.{List, [], _∷_, _++_}
 use lib.Dec.{ltb}
-use Rattle.frame.specs.declared.addresses.Address.{Address}
-use Rattle.frame.specs.declared.addresses.Address.the-variants.{Short, Serial}
+use Rattle.body.specs.declared.addresses.Address.{Address}
+use Rattle.body.specs.declared.addresses.Address.the-variants.{Short, Serial}
 
 -- the bytes of a word
 abbrev pub spelt : String → List ℕ

@@ -3,9 +3,9 @@ use Prim.Native.Nat.{ℕ, _+_}
 use mathlib.Core.List.{List, [], _∷_, _++_, map}
 use lib.ListN.{length}
 use Rattle.line.specs.Listener.{Heard}
-use Rattle.listing.specs.declared.entries.Entry.{Entry}
-use Rattle.listing.specs.declared.entries.Entry.the-variants.{Nothing, Weight, Message, Refused}
-use Rattle.listing.specs.Entries.{entryHeard}
+use Rattle.entries.specs.declared.entries.Entry.{Entry}
+use Rattle.entries.specs.declared.entries.Entry.the-variants.{Nothing, Weight, Message, Refused}
+use Rattle.entries.specs.Entries.{entryHeard}
 use Rattle.listing.specs.Lines.{lineOf, totalOf}
 
 -- 1 for a weight

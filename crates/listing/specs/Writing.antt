@@ -10,8 +10,8 @@ use Rattle.refusal.specs.declared.Verdict.{Verdict}
 use Rattle.refusal.specs.declared.Verdict.the-variants.{Good}
 use Rattle.refusal.specs.Numbers.{refuseIf}
 use Rattle.room.specs.Writing.{Left, wrote}
-use Rattle.listing.specs.declared.entries.Entry.{Entry}
-use Rattle.listing.specs.Entries.{sound}
+use Rattle.entries.specs.declared.entries.Entry.{Entry}
+use Rattle.entries.specs.Entries.{sound}
 use Rattle.listing.specs.Lines.{lineOf, totalOf}
 
 -- 9

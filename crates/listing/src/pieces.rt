@@ -1,7 +1,7 @@
 // The pieces of a line. A line is put together from its end, so that the digits of a number come in the order in which
 // division gives them: each piece is put ahead of what stands from place `at` on, and the place where it begins is answered.
-use frame::Address;
-use message::Load;
+use body::Address;
+use codes::Load;
 use room::lay;
 use weight::Reading;
 ghost use mathlib.Core.Path.{_≡_};

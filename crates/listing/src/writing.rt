@@ -1,5 +1,4 @@
 // Lines into lent room: each is put together at the end of an array of our own, and then laid into the room at once.
-use crate::entries::Entry;
 use crate::pieces::put;
 use crate::pieces::put_address;
 use crate::pieces::put_code;
@@ -7,8 +6,9 @@ use crate::pieces::put_counted;
 use crate::pieces::put_decimal;
 use crate::pieces::put_load;
 use crate::pieces::put_reading;
-use frame::Address;
-use message::Load;
+use body::Address;
+use codes::Load;
+use entries::Entry;
 use refusal::Refusal;
 use refusal::Verdict;
 use room::Written;
@@ -19,7 +19,7 @@ use weight::is_legal;
 ghost use mathlib.Core.Path.{_≡_};
 ghost use lib.ListN.{length};
 ghost use Rattle.room.specs.Writing.{Leaves};
-ghost use Rattle.listing.specs.Entries.{sound};
+ghost use Rattle.entries.specs.Entries.{sound};
 ghost use Rattle.listing.specs.Lines.{lineOf, totalOf};
 ghost use Rattle.listing.specs.Writing.{Ahead, writtenText, writtenLine, writtenTotal};
 

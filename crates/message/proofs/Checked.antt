@@ -7,9 +7,9 @@ use mathlib.Core.List.{List}
 use borrow.Author.Tests.{eq-eqb}
 use Rattle.refusal.specs.declared.Verdict.the-variants.{Good}
 use Rattle.check_byte.specs.Register.{received}
-use Rattle.frame.specs.Body.{checkRight, judged, judgedLent}
-use Rattle.frame.proofs.Rebuilding.{good-check}
-use Rattle.message.specs.declared.table.Role.{Role}
+use Rattle.body.specs.Body.{checkRight, judged, judgedLent}
+use Rattle.body.proofs.Rebuilding.{good-check}
+use Rattle.codes.specs.declared.table.Role.{Role}
 use Rattle.message.specs.Reading.{judgedBody, readIf, readMessage}
 
 pub by-its-check : (role : Role) (body : List ℕ) → readIf (checkRight body) role body ≡ readMessage role body

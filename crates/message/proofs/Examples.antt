@@ -11,20 +11,20 @@ use Rattle.check_byte.specs.Register.{received, checkOf, feedAll, feedByte, fee
 use Rattle.weight.specs.Bytes.{readOf}
 use Rattle.weight.proofs.Examples.{e3-reading}
 use Rattle.inputs.specs.On.{inputsOn, sumOfBits}
-use Rattle.frame.specs.declared.addresses.Address.{Address}
-use Rattle.frame.specs.declared.addresses.Address.the-variants.{Short, Serial}
-use Rattle.frame.specs.Addresses.{legal, addressBytes, addressIn, addressLength}
-use Rattle.frame.specs.Body.{unchecked, bodyOf, short, judged, judgedLent, codeIn, dataIn}
+use Rattle.body.specs.declared.addresses.Address.{Address}
+use Rattle.body.specs.declared.addresses.Address.the-variants.{Short, Serial}
+use Rattle.body.specs.Addresses.{legal, addressBytes, addressIn, addressLength}
+use Rattle.body.specs.Body.{unchecked, bodyOf, short, judged, judgedLent, codeIn, dataIn}
 use Rattle.frame.specs.Stuffing.{countFF, needed}
-use Rattle.message.specs.declared.table.Role.{Role}
-use Rattle.message.specs.declared.table.Role.the-variants.{Request, Reply}
-use Rattle.message.specs.declared.table.Load.the-variants.{Gross}
+use Rattle.codes.specs.declared.table.Role.{Role}
+use Rattle.codes.specs.declared.table.Role.the-variants.{Request, Reply}
+use Rattle.codes.specs.declared.table.Load.the-variants.{Gross}
 use Rattle.message.specs.declared.meaning.What.the-variants as says
 use Rattle.message.specs.declared.meaning.Told.{Told}
 use Rattle.message.specs.declared.meaning.Told.the-variants.{What, Refused}
 use Rattle.message.specs.declared.reading.Received.{Received}
 use Rattle.message.specs.declared.reading.Received.the-variants as received-as
-use Rattle.message.specs.Table.{lineIn, lineOf, rowOf}
+use Rattle.codes.specs.Table.{lineIn, lineOf, rowOf}
 use Rattle.message.specs.Fields.{readIn}
 use Rattle.message.specs.Meaning.{lowFirst, onIn}
 use Rattle.message.specs.Judging.{judgedData, judgedMessage, told}

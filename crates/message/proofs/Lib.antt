@@ -1,4 +1,3 @@
-pub mod Bytes
 pub mod Checked
 pub mod Opening
 pub mod Order

@@ -8,8 +8,8 @@ use Rattle.refusal.proofs.OneAnswer.{one}
 use Rattle.room.specs.declared.Written.{Written}
 use Rattle.room.specs.Writing.{Leaves}
 use Rattle.room.proofs.OneAnswer.{leaves-one}
-use Rattle.frame.specs.declared.addresses.Address.{Address}
-use Rattle.message.specs.declared.table.Role.{Role}
+use Rattle.body.specs.declared.addresses.Address.{Address}
+use Rattle.codes.specs.declared.table.Role.{Role}
 use Rattle.message.specs.declared.reading.Received.{Received}
 use Rattle.message.specs.Reading.{readIf, readMessage}
 use Rattle.message.specs.Writing.{writtenMessage}

@@ -14,12 +14,12 @@ use Rattle.refusal.specs.declared.Refusal.{Refusal}
 use Rattle.refusal.specs.declared.Verdict.{Verdict}
 use Rattle.refusal.specs.declared.Verdict.the-variants.{Good, Refused}
 use Rattle.refusal.proofs.Verdicts.{test-passed, rest-passed}
-use Rattle.frame.specs.declared.bodies.Parts.{Parts}
-use Rattle.frame.specs.declared.bodies.Opened.the-variants as opened-as
-use Rattle.frame.specs.Addresses.{addressIn, addressLength}
-use Rattle.frame.specs.Body.{short, judgedLentIf, codeIn, dataIn, partsOf, opening, openedIf}
-use Rattle.frame.proofs.Shortness.{address-inside}
-use Rattle.message.specs.declared.table.Role.{Role}
+use Rattle.body.specs.declared.bodies.Parts.{Parts}
+use Rattle.body.specs.declared.bodies.Opened.the-variants as opened-as
+use Rattle.body.specs.Addresses.{addressIn, addressLength}
+use Rattle.body.specs.Body.{short, judgedLentIf, codeIn, dataIn, partsOf, opening, openedIf}
+use Rattle.body.proofs.Shortness.{address-inside}
+use Rattle.codes.specs.declared.table.Role.{Role}
 use Rattle.message.specs.declared.meaning.What.{What}
 use Rattle.message.specs.declared.meaning.Told.the-variants as told-as
 use Rattle.message.specs.declared.reading.Message.{Message}

@@ -8,10 +8,10 @@ use Rattle.refusal.specs.declared.Refusal.{Refusal}
 use Rattle.refusal.specs.declared.Refusal.the-variants.{AddressIllegal}
 use Rattle.room.specs.declared.Written.{Written}
 use Rattle.room.specs.Writing.{Leaves, refusedWrite}
-use Rattle.frame.specs.declared.addresses.Address.{Address}
-use Rattle.frame.specs.Addresses.{legal}
+use Rattle.body.specs.declared.addresses.Address.{Address}
+use Rattle.body.specs.Addresses.{legal}
 use Rattle.frame.specs.Writing.{judgedFields, judgedWrite, writtenFrame}
-use Rattle.message.specs.declared.table.Role.{Role}
+use Rattle.codes.specs.declared.table.Role.{Role}
 use Rattle.message.specs.declared.meaning.What.{What}
 use Rattle.message.specs.declared.meaning.Told.the-variants as told-as
 use Rattle.message.specs.Judging.{judgedMessage, told}

@@ -12,13 +12,13 @@ use lib.Pow.{areBytes}
 use Rattle.refusal.specs.declared.Verdict.{Verdict}
 use Rattle.refusal.specs.declared.Verdict.the-variants.{Good, Refused}
 use Rattle.refusal.proofs.Verdicts.{refused-not-good, test-passed, rest-passed}
-use Rattle.frame.specs.declared.addresses.Address.{Address}
-use Rattle.frame.specs.Addresses.{legal, addressIn}
-use Rattle.frame.specs.Body.{bodyOf, judgedLent, codeIn, dataIn}
+use Rattle.body.specs.declared.addresses.Address.{Address}
+use Rattle.body.specs.Addresses.{legal, addressIn}
+use Rattle.body.specs.Body.{bodyOf, judgedLent, codeIn, dataIn}
 use Rattle.frame.specs.Stuffing.{needed}
-use Rattle.frame.proofs.Rebuilding.{address-back, code-back, data-back, made-good, good-address, rebuilt, lent-good, lent-at-most}
-use Rattle.frame.proofs.Shortness.{good-not-short}
-use Rattle.message.specs.declared.table.Role.{Role}
+use Rattle.body.proofs.Rebuilding.{address-back, code-back, data-back, made-good, good-address, rebuilt, lent-good, lent-at-most}
+use Rattle.body.proofs.Shortness.{good-not-short}
+use Rattle.codes.specs.declared.table.Role.{Role}
 use Rattle.message.specs.declared.reading.Message.{Message}
 use Rattle.message.specs.declared.reading.Received.the-variants as received-as
 use Rattle.message.specs.Judging.{andThen, judgedMessage}

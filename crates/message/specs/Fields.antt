@@ -7,9 +7,9 @@ use lib.Dec.{eqb, ltb}
 use Rattle.weight.specs.declared.Read.{Read}
 use Rattle.weight.specs.declared.Read.the-variants.{Good, Refused}
 use Rattle.weight.specs.Bytes.{readOf}
-use Rattle.message.specs.declared.table.Row.{Row}
-use Rattle.message.specs.declared.table.Row.the-variants.{Unknown, Empty, Serial, Number, Status, Weight, Inputs, Outputs, Text, Event, Adc, Error}
-use Rattle.message.specs.Table.{among}
+use Rattle.codes.specs.declared.table.Row.{Row}
+use Rattle.codes.specs.declared.table.Row.the-variants.{Unknown, Empty, Serial, Number, Status, Weight, Inputs, Outputs, Text, Event, Adc, Error}
+use Rattle.codes.specs.Table.{among}
 
 -- W0 W1 W2 CON
 unfoldable pub readIn : List ℕ → Read

@@ -6,13 +6,13 @@ use Rattle.refusal.specs.declared.Refusal.the-variants.{CodeUnknown, LengthWron
 use Rattle.refusal.specs.declared.Verdict.{Verdict}
 use Rattle.refusal.specs.declared.Verdict.the-variants.{Good, Refused}
 use Rattle.refusal.specs.Numbers.{refuseIf}
-use Rattle.message.specs.declared.table.Role.{Role}
-use Rattle.message.specs.declared.table.Row.{Row}
+use Rattle.codes.specs.declared.table.Role.{Role}
+use Rattle.codes.specs.declared.table.Row.{Row}
 use Rattle.message.specs.declared.meaning.What.{What}
 use Rattle.message.specs.declared.meaning.Told.{Told}
 use Rattle.message.specs.declared.meaning.Told.the-variants as told-as
-use Rattle.message.specs.Table.{rowOf, inTable}
-use Rattle.message.specs.Lengths.{lengthOf, lengthRight}
+use Rattle.codes.specs.Table.{rowOf, inTable}
+use Rattle.codes.specs.Lengths.{lengthOf, lengthRight}
 use Rattle.message.specs.Fields.{fieldsRight}
 use Rattle.message.specs.Meaning.{meaning}
 

@@ -1,5 +1,3 @@
-pub mod Table
-pub mod Lengths
 pub mod Fields
 pub mod Meaning
 pub mod Judging

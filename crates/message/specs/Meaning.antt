@@ -5,9 +5,9 @@ use lib.ListN.{length, getD}
 use Rattle.weight.specs.declared.Read.{Read}
 use Rattle.weight.specs.declared.Read.the-variants as read-as
 use Rattle.inputs.specs.On.{inputsOn}
-use Rattle.message.specs.declared.table.Load.{Load}
-use Rattle.message.specs.declared.table.Row.{Row}
-use Rattle.message.specs.declared.table.Row.the-variants.{Unknown, Empty, Serial, Number, Status, Weight, Inputs, Outputs, Text, Event, Adc, Error}
+use Rattle.codes.specs.declared.table.Load.{Load}
+use Rattle.codes.specs.declared.table.Row.{Row}
+use Rattle.codes.specs.declared.table.Row.the-variants.{Unknown, Empty, Serial, Number, Status, Weight, Inputs, Outputs, Text, Event, Adc, Error}
 use Rattle.message.specs.declared.meaning.Four.{Four}
 use Rattle.message.specs.declared.meaning.What.{What}
 use Rattle.message.specs.declared.meaning.What.the-variants as says

@@ -6,14 +6,14 @@ use mathlib.Core.List.{List}
 use lib.ListN.{length}
 use Rattle.refusal.specs.declared.Verdict.{Verdict}
 use Rattle.refusal.specs.declared.Verdict.the-variants.{Good, Refused}
-use Rattle.frame.specs.declared.addresses.Address.{Address}
-use Rattle.frame.specs.Addresses.{addressIn, addressLength}
-use Rattle.frame.specs.Body.{judgedLentIf, judgedLent, codeIn, dataIn}
-use Rattle.message.specs.declared.table.Role.{Role}
+use Rattle.body.specs.declared.addresses.Address.{Address}
+use Rattle.body.specs.Addresses.{addressIn, addressLength}
+use Rattle.body.specs.Body.{judgedLentIf, judgedLent, codeIn, dataIn}
+use Rattle.codes.specs.declared.table.Role.{Role}
 use Rattle.message.specs.declared.reading.Message.{Message}
 use Rattle.message.specs.declared.reading.Received.{Received}
 use Rattle.message.specs.declared.reading.Received.the-variants as received-as
-use Rattle.message.specs.Table.{rowOf}
+use Rattle.codes.specs.Table.{rowOf}
 use Rattle.message.specs.Meaning.{meaning}
 use Rattle.message.specs.Judging.{andThen, judgedMessage}
 

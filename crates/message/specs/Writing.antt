@@ -10,11 +10,11 @@ use Rattle.refusal.specs.declared.Verdict.{Verdict}
 use Rattle.refusal.specs.declared.Verdict.the-variants.{Good}
 use Rattle.refusal.specs.Numbers.{refuseIf}
 use Rattle.room.specs.Writing.{Left, wrote}
-use Rattle.frame.specs.declared.addresses.Address.{Address}
-use Rattle.frame.specs.Addresses.{legal}
-use Rattle.frame.specs.Body.{bodyOf}
+use Rattle.body.specs.declared.addresses.Address.{Address}
+use Rattle.body.specs.Addresses.{legal}
+use Rattle.body.specs.Body.{bodyOf}
 use Rattle.frame.specs.Stuffing.{framed, needed}
-use Rattle.message.specs.declared.table.Role.{Role}
+use Rattle.codes.specs.declared.table.Role.{Role}
 use Rattle.message.specs.Judging.{andThen, judgedMessage}
 
 -- 5; 6, 7, 8; 2; 9

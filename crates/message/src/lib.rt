@@ -1,7 +1,6 @@
 // The messages of the paper's table, in both roles: read from a lent body, and written into lent room.
 mod meaning;
 mod reading;
-mod table;
 mod writing;
 
 pub use meaning::What;
@@ -9,6 +8,4 @@ pub use reading::Message;
 pub use reading::Received;
 pub use reading::read;
 pub use reading::read_checked;
-pub use table::Load;
-pub use table::Role;
 pub use writing::write;

@@ -1,13 +1,13 @@
 // What a message says: its code and data judged 6, 7, 8, and then as numbers, a reading, or the place of a text.
-use crate::table::Length;
-use crate::table::Load;
-use crate::table::Num;
-use crate::table::Role;
-use crate::table::Row;
-use crate::table::in_table;
-use crate::table::is_among;
-use crate::table::length_right;
-use crate::table::row_of;
+use codes::Length;
+use codes::Load;
+use codes::Num;
+use codes::Role;
+use codes::Row;
+use codes::in_table;
+use codes::is_among;
+use codes::length_right;
+use codes::row_of;
 use inputs::count_on;
 use refusal::Refusal;
 use weight::Read;
@@ -18,7 +18,7 @@ ghost use mathlib.Core.Bool.{true};
 ghost use mathlib.Core.List.{[], _∷_};
 ghost use Prim.Native.Nat.{_≤_, _<_};
 ghost use lib.ListN.{length};
-ghost use Rattle.message.specs.Lengths.{lengthOf, lengthRight};
+ghost use Rattle.codes.specs.Lengths.{lengthOf, lengthRight};
 ghost use Rattle.message.specs.Meaning.{bytesOf, lowFirst};
 ghost use Rattle.message.specs.Judging.{within, said, told};
 

@@ -2,11 +2,11 @@
 use crate::meaning::Told;
 use crate::meaning::What;
 use crate::meaning::tell;
-use crate::table::Role;
-use frame::Address;
-use frame::Opened;
-use frame::check_right;
-use frame::open_checked;
+use body::Address;
+use body::Opened;
+use body::check_right;
+use body::open_checked;
+use codes::Role;
 use refusal::Refusal;
 ghost use mathlib.Core.Path.{_≡_};
 ghost use Rattle.message.specs.Reading.{readIf, readMessage};

@@ -1,9 +1,9 @@
 // Writing: role, address, code and the data bytes of the table's row to a frame in lent room.
 use crate::meaning::Told;
 use crate::meaning::tell;
-use crate::table::Role;
-use frame::Address;
-use frame::legal;
+use body::Address;
+use body::legal;
+use codes::Role;
 use refusal::Refusal;
 use room::Written;
 use room::refused_write;

@@ -2,10 +2,10 @@
 use Prim.Native.Nat.{ℕ}
 use mathlib.Core.Bool.{cond}
 use lib.Dec.{eqb}
-use Rattle.frame.specs.declared.addresses.Address.{Address}
-use Rattle.frame.specs.declared.addresses.Address.the-variants.{Short, Serial}
-use Rattle.message.specs.declared.table.Role.{Role}
-use Rattle.message.specs.declared.table.Role.the-variants.{Request, Reply}
+use Rattle.body.specs.declared.addresses.Address.{Address}
+use Rattle.body.specs.declared.addresses.Address.the-variants.{Short, Serial}
+use Rattle.codes.specs.declared.table.Role.{Role}
+use Rattle.codes.specs.declared.table.Role.the-variants.{Request, Reply}
 
 -- a short address and serial 0, or short 0 and a serial; both at once are no address: the short address 0, which no frame may carry
 unfoldable pub addressFrom : ℕ → ℕ → Address

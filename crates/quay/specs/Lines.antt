@@ -7,9 +7,9 @@ use Rattle.refusal.specs.Numbers.{numberOf, verdictNumber}
 use Rattle.room.specs.declared.Written.{Written}
 use Rattle.room.specs.Writing.{Left}
 use Rattle.line.specs.Readers.{heardAs}
-use Rattle.listing.specs.declared.entries.Entry.{Entry}
-use Rattle.listing.specs.declared.entries.Entry.the-variants as entry-as
-use Rattle.listing.specs.Entries.{entryGiven}
+use Rattle.entries.specs.declared.entries.Entry.{Entry}
+use Rattle.entries.specs.declared.entries.Entry.the-variants as entry-as
+use Rattle.entries.specs.Entries.{entryHeard}
 use Rattle.listing.specs.Writing.{writtenLine}
 use Rattle.quay.specs.declared.events.QuayEvent.{QuayEvent}
 use Rattle.quay.specs.declared.events.Given.{Given}
@@ -37,11 +37,11 @@ pub record ListsEntry (number : ℕ) (entry : Entry) (before : List ℕ) (answer
 -- the answer and the room of an event that was handed in; refused, length 0 beside its number and every byte as it stood
 abbrev pub listedGiven : ℕ → Given → List ℕ → List ℕ → QuayListed
 listedGiven number (given-as.Event event) body room =
-    listedOut (entryGiven (heardAs event body)) (writtenLine number (entryGiven (heardAs event body)) room .answer)
+    listedOut (entryHeard (heardAs event body)) (writtenLine number (entryHeard (heardAs event body)) room .answer)
 listedGiven number (given-as.Refused why) body room = unlisted why
 
 abbrev pub leftGiven : ℕ → Given → List ℕ → List ℕ → List ℕ
-leftGiven number (given-as.Event event) body room = writtenLine number (entryGiven (heardAs event body)) room .room
+leftGiven number (given-as.Event event) body room = writtenLine number (entryHeard (heardAs event body)) room .room
 leftGiven number (given-as.Refused why) body room = room
 
 pub record Lists (number : ℕ) (event : QuayEvent) (body before : List ℕ) (answered : QuayListed) (left : List ℕ) : Type 0 where

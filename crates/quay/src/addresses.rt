@@ -1,6 +1,6 @@
 // Addresses and roles as numbers.
-use frame::Address;
-use message::Role;
+use body::Address;
+use codes::Role;
 ghost use mathlib.Core.Path.{_≡_};
 ghost use Rattle.weighing_log.specs.Hearing.{addressByte, serialOf};
 ghost use Rattle.quay.specs.Addresses.{addressFrom, roleFrom};

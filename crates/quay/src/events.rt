@@ -9,6 +9,7 @@ use refusal::Refusal;
 use refusal::number;
 use refusal::of_number;
 ghost use mathlib.Core.Path.{_≡_};
+ghost use lib.ListN.{take};
 ghost use Rattle.quay.specs.Events.{phaseNumber, phaseFrom, placeOut, placeFrom, eventOut, givenAs, eventFrom};
 
 // Where a reader stands. All zeros are a fresh reader.
@@ -127,4 +128,14 @@ pub(crate) fn event_from(event: QuayEvent) -> Given
         2 => given_as(of_number(event.refusal), event),
         _ => Given::Refused(Refusal::FieldOutside),
     }
+}
+
+// The body of a frame that was handed in: the front of the lent bytes, or all of them where fewer are lent.
+pub(crate) fn front(body: &[u8], kept: usize) -> &[u8]
+    ensures { λ r. ⌜ now r ≡ take kept (now (body .entry)) ⌝ }
+{
+    if body.len() < kept {
+        return &body[0..body.len()];
+    }
+    &body[0..kept]
 }

@@ -2,18 +2,20 @@
 use crate::events::Given;
 use crate::events::QuayEvent;
 use crate::events::event_from;
+use crate::events::front;
 use crate::writing::QuayWritten;
 use crate::writing::written_out;
+use codes::Role;
+use entries::Entry;
+use entries::entry_of;
 use line::Event;
-use listing::Entry;
-use listing::heard;
 use listing::write_line;
 use listing::write_total;
 use refusal::Refusal;
 use refusal::number;
 ghost use mathlib.Core.Path.{_≡_};
 ghost use Rattle.line.specs.Readers.{heardAs};
-ghost use Rattle.listing.specs.Entries.{entryGiven};
+ghost use Rattle.entries.specs.Entries.{entryHeard};
 ghost use Rattle.listing.specs.Writing.{writtenTotal};
 ghost use Rattle.quay.specs.Writing.{Leaves};
 ghost use Rattle.quay.specs.Lines.{entryNumber, unlisted, Lists, ListsEntry};
@@ -47,6 +49,18 @@ fn unlisted(why: Refusal) -> QuayListed
     }
 }
 
+// What an event lists as, with its body at the front of the lent bytes. The body is judged again, check and all: a caller of another
+// language may lend other bytes than those that were heard.
+fn entry_heard(event: Event, body: &[u8]) -> Entry
+    ensures { λ r. ⌜ r ≡ entryHeard (heardAs event (now (body .entry))) ⌝ }
+{
+    match event {
+        Event::Nothing => Entry::Nothing,
+        Event::Refused(why, _, _) => Entry::Refused(why),
+        Event::Frame(_, place) => entry_of(message::read(Role::Reply, front(body, place.0))),
+    }
+}
+
 fn list_entry(number: u64, entry: Entry, room: &mut [u8]) -> QuayListed
     ensures { λ r. ⌜ ListsEntry number entry (now (room .entry)) r (now (room .exit)) ⌝ }
 {
@@ -59,7 +73,7 @@ fn list_entry(number: u64, entry: Entry, room: &mut [u8]) -> QuayListed
     }
 }
 
-// The line of an event, as the event of that number; a frame's body stands at the front of the lent bytes, as `quay_listen` left it. Judged
+// The line of an event, as the event of that number; a frame's body stands at the front of the lent bytes, and is judged again. Judged
 // 8 for a kind of event or a refusal that is none, and then 9.
 #[no_mangle]
 pub extern "C" fn quay_list_event(
@@ -72,7 +86,7 @@ pub extern "C" fn quay_list_event(
 {
     match event_from(event) {
         Given::Refused(why) => unlisted(why),
-        Given::Event(given) => list_entry(number, heard(given, body), room),
+        Given::Event(given) => list_entry(number, entry_heard(given, body), room),
     }
 }
 

@@ -4,7 +4,7 @@ use crate::addresses::role_from;
 use crate::addresses::serial_of;
 use crate::addresses::short_of;
 use crate::weights::QuayWeight;
-use message::Load;
+use codes::Load;
 use message::Message;
 use message::Received;
 use message::What;

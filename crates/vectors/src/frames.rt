@@ -10,9 +10,9 @@ use crate::words::say_number;
 use crate::words::say_refusal;
 use crate::words::say_small;
 use crate::words::say_verdict;
+use body::Opened;
+use body::Parts;
 use frame::Needed;
-use frame::Opened;
-use frame::Parts;
 use room::Written;
 
 // Register and byte; the register.
@@ -33,12 +33,12 @@ pub fn check_of(text: &[u8]) {
 
 // An address; whether it may stand in a frame.
 pub fn legal() {
-    say_flag(frame::legal(take_address()))
+    say_flag(body::legal(take_address()))
 }
 
 // A body that ended; its verdict.
 pub fn judge(text: &[u8]) {
-    say_verdict(frame::judge(text))
+    say_verdict(body::judge(text))
 }
 
 fn say_parts(parts: Parts, body: &[u8]) {
@@ -51,7 +51,7 @@ fn say_parts(parts: Parts, body: &[u8]) {
 
 // A lent body; its address, code and data.
 pub fn open(text: &[u8]) {
-    match frame::open(text) {
+    match body::open(text) {
         Opened::Refused(why) => say_refusal(why),
         Opened::Parts(parts) => say_parts(parts, text),
     }

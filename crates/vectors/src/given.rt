@@ -1,8 +1,8 @@
 // What a case hands in beside its text: numbers, low byte first, taken from standard input one after the other. Past its end they
 // are 0, so that a case cut short gives a wrong answer, which is seen.
-use frame::Address;
+use body::Address;
+use codes::Role;
 use libc::STDIN_FILENO;
-use message::Role;
 use weight::Reading;
 ghost use Prim.Native.Nat.{_<_, _≤_};
 

@@ -7,7 +7,7 @@ use room::Written;
 pub fn write_line(text: &[u8], room: &mut [u8]) -> Written {
     let number = take_number();
     let event = take_event();
-    listing::write_line(number, listing::heard(event, text), room)
+    listing::write_line(number, entries::heard(event, text), room)
 }
 
 // Lent room, and three counts of eight bytes.

@@ -11,7 +11,7 @@ use crate::words::say_reading;
 use crate::words::say_refusal;
 use crate::words::say_small;
 use crate::words::say_tagged;
-use message::Load;
+use codes::Load;
 use message::Message;
 use message::Received;
 use message::What;

@@ -10,13 +10,13 @@ use crate::words::say_number;
 use crate::words::say_refusal;
 use crate::words::say_refused;
 use crate::words::say_small;
+use codes::Role;
 use line::Event;
 use message::Received;
-use message::Role;
+use records::Entry;
+use records::Record;
 use room::Written;
-use weighing_log::Entry;
 use weighing_log::Noted;
-use weighing_log::Record;
 use weighing_log::Stepped;
 
 // Eight bytes of the time, kind, address, four of the serial, status, W0 W1 W2.
@@ -45,7 +45,7 @@ fn say_record(record: Record) {
 
 // Bytes; their record.
 pub fn read(text: &[u8]) {
-    match weighing_log::read_record(text) {
+    match records::read_record(text) {
         Entry::Refused(why) => say_refusal(why),
         Entry::Record(record) => {
             say_good();
@@ -92,5 +92,5 @@ pub fn step(text: &[u8]) {
 
 // Lent room and a record.
 pub fn write(room: &mut [u8]) -> Written {
-    weighing_log::write_record(take_record(), room)
+    records::write_record(take_record(), room)
 }

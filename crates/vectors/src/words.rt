@@ -1,5 +1,5 @@
 // What an answer is made of: words, each behind a blank. A number is told in decimal, bytes in hex, no bytes as `-`.
-use frame::Address;
+use body::Address;
 use libc::STDOUT_FILENO;
 use refusal::Refusal;
 use refusal::Verdict;

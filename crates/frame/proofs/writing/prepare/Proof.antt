@@ -1,9 +1,9 @@
 -- `frame::prepare` meets its contract: 5, then 2, then the body made ready and its room counted.
 -- Why: each return is one of the three answers, and the FF bytes are counted in exactly what was assembled.
-use Rattle.frame.proofs.Anatomy.{body-length as size}
+use Rattle.body.proofs.Anatomy.{body-length as size}
 use Rattle.frame.specs.Stuffing.{countFF}
-use Rattle.frame.specs.Body.{bodyOf}
-use Rattle.frame.specs.Addresses.{legal}
+use Rattle.body.specs.Body.{bodyOf}
+use Rattle.body.specs.Addresses.{legal}
 use Rattle.room.proofs.Over.{laid-end, laid-front}
 use lib.ListN.{length, take, length-take}
 use native.Mathlib.Nat.{sub-zero}
@@ -18,7 +18,7 @@ use Rattle.frame.proofs.writing.prepare.Statement.{statement}
 use Rattle.frame.proofs.writing.prepare.Tie as tie
 use Rattle.frame.proofs.writing.prepare.Reads as reads
 use Rattle.frame.proofs.writing.prepare.Lts as lts
-use Rattle.frame.proofs.addresses.legal.Reads as legal-reads
+use Rattle.body.proofs.legal.Reads as legal-reads
 use Rattle.frame.proofs.writing.assemble.Reads as assemble-reads
 use Rattle.frame.proofs.writing.body_length.Reads as body-length-reads
 use Rattle.frame.proofs.writing.count_ff.Reads as count-ff-reads

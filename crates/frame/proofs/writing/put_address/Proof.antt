@@ -1,6 +1,6 @@
 -- `frame::put_address` meets its contract: the bytes laid are the address as it stands on the wire.
 -- Why: in each arm the address is the constructor that the arm names.
-use Rattle.frame.specs.Addresses.{addressBytes}
+use Rattle.body.specs.Addresses.{addressBytes}
 use borrow.Author.Needs.{needs}
 use Rattle.frame.proofs.writing.put_address.Statement.{statement}
 use Rattle.frame.proofs.writing.put_address.Tie as tie

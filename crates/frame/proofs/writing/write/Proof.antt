@@ -1,9 +1,9 @@
 -- `frame::write` meets its contract: judged 5, 2, 9, and then the frame in the first bytes of the room.
 -- Why: what was made ready tells 5 and 2 and the room needed; the body there is the one whose frame is put.
-use Rattle.frame.proofs.Anatomy.{body-length as size}
+use Rattle.body.proofs.Anatomy.{body-length as size}
 use Rattle.frame.specs.declared.writing.Needed.the-variants.{Bytes}
 use Rattle.frame.specs.Preparing.{Prepared}
-use Rattle.frame.specs.Body.{bodyOf}
+use Rattle.body.specs.Body.{bodyOf}
 use lib.ListN.{length, take, replicate}
 use native.Mathlib.Nat.{sub-zero}
 use mathlib.Core.List.{List}

@@ -9,7 +9,7 @@ use Rattle.line.proofs.places.end_body.Statement.{statement}
 use Rattle.line.proofs.places.end_body.Tie as tie
 use Rattle.line.proofs.places.end_body.Reads as reads
 use Rattle.line.proofs.places.end_body.Lts as lts
-use Rattle.frame.proofs.judge.Reads as judge-reads
+use Rattle.body.proofs.judge.Reads as judge-reads
 
 sub-judge : tie.Need-sub-judge
 sub-judge c = search needs

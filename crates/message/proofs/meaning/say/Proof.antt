@@ -2,11 +2,11 @@
 -- Why: in each arm the row is the one that the arm names, its length tells that the bytes are there, and its test is the row's.
 use mathlib.Core.Path.{refl}
 use native.Mathlib.Omega.{arith}
-use Rattle.message.specs.declared.table.Row.the-variants.{Serial, Number, Status, Weight, Inputs, Outputs, Event, Adc, Error}
+use Rattle.codes.specs.declared.table.Row.the-variants.{Serial, Number, Status, Weight, Inputs, Outputs, Event, Adc, Error}
 use Rattle.message.specs.Fields.{readIn}
 use Rattle.message.specs.Meaning.{onIn}
 use Rattle.message.specs.Judging.{said}
-use Rattle.message.proofs.Bytes.{exactly}
+use Rattle.codes.proofs.Bytes.{exactly}
 use borrow.Author.Needs.{needs}
 use Rattle.message.proofs.meaning.say.Statement.{statement}
 use Rattle.message.proofs.meaning.say.Tie as tie
@@ -20,7 +20,7 @@ use Rattle.message.proofs.meaning.say_event.Reads as say-event-reads
 use Rattle.message.proofs.meaning.say_text.Reads as say-text-reads
 use Rattle.message.proofs.meaning.serial_in.Reads as serial-in-reads
 use Rattle.message.proofs.meaning.word.Reads as word-reads
-use Rattle.message.proofs.table.is_among.Reads as is-among-reads
+use Rattle.codes.proofs.is_among.Reads as is-among-reads
 use Rattle.weight.proofs.read_bytes.Reads as read-bytes-reads
 
 enum-told : tie.Need-enum-told

@@ -2,14 +2,14 @@
 -- Why: data with a count byte have two bytes, and the test is that of the row.
 use native.Mathlib.Omega.{arith}
 use Rattle.message.specs.Judging.{said}
-use Rattle.message.proofs.Bytes.{counted}
+use Rattle.codes.proofs.Bytes.{counted}
 use borrow.Author.Needs.{needs}
 use Rattle.message.proofs.meaning.say_text.Statement.{statement}
 use Rattle.message.proofs.meaning.say_text.Tie as tie
 use Rattle.message.proofs.meaning.say_text.Reads as reads
 use Rattle.message.proofs.meaning.say_text.Lts as lts
 use Rattle.message.proofs.meaning.judged.Reads as judged-reads
-use Rattle.message.proofs.table.is_among.Reads as is-among-reads
+use Rattle.codes.proofs.is_among.Reads as is-among-reads
 
 shared-slice-read-number : tie.Need-shared-slice-read-number
 shared-slice-read-number c = omega (arith, counted (c .before .before .args .«data» .now) (c .before .before .pre .0))

@@ -9,9 +9,9 @@ use Rattle.message.proofs.meaning.tell.Tie as tie
 use Rattle.message.proofs.meaning.tell.Reads as reads
 use Rattle.message.proofs.meaning.tell.Lts as lts
 use Rattle.message.proofs.meaning.say.Reads as say-reads
-use Rattle.message.proofs.table.in_table.Reads as in-table-reads
-use Rattle.message.proofs.table.length_right.Reads as length-right-reads
-use Rattle.message.proofs.table.row_of.Reads as row-of-reads
+use Rattle.codes.proofs.in_table.Reads as in-table-reads
+use Rattle.codes.proofs.length_right.Reads as length-right-reads
+use Rattle.codes.proofs.row_of.Reads as row-of-reads
 
 row-of-requires : tie.Need-row-of-requires
 row-of-requires c κs = search needs

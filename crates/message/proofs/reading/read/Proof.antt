@@ -6,7 +6,7 @@ use Rattle.message.proofs.reading.read.Statement.{statement}
 use Rattle.message.proofs.reading.read.Tie as tie
 use Rattle.message.proofs.reading.read.Reads as reads
 use Rattle.message.proofs.reading.read.Lts as lts
-use Rattle.frame.proofs.check_right.Reads as check-right-reads
+use Rattle.body.proofs.check_right.Reads as check-right-reads
 use Rattle.message.proofs.reading.read_checked.Reads as read-checked-reads
 
 check-right-requires : tie.Need-check-right-requires

@@ -7,7 +7,7 @@ use Rattle.message.proofs.reading.read_checked.Statement.{statement}
 use Rattle.message.proofs.reading.read_checked.Tie as tie
 use Rattle.message.proofs.reading.read_checked.Reads as reads
 use Rattle.message.proofs.reading.read_checked.Lts as lts
-use Rattle.frame.proofs.open_checked.Reads as open-checked-reads
+use Rattle.body.proofs.open_checked.Reads as open-checked-reads
 use Rattle.message.proofs.meaning.tell.Reads as tell-reads
 
 open-checked-requires : tie.Need-open-checked-requires

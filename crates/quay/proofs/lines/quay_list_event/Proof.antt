@@ -6,7 +6,7 @@ use Rattle.quay.proofs.lines.quay_list_event.Statement.{statement}
 use Rattle.quay.proofs.lines.quay_list_event.Tie as tie
 use Rattle.quay.proofs.lines.quay_list_event.Reads as reads
 use Rattle.quay.proofs.lines.quay_list_event.Lts as lts
-use Rattle.listing.proofs.heard.Reads as heard-reads
+use Rattle.quay.proofs.lines.entry_heard.Reads as entry-heard-reads
 use Rattle.quay.proofs.events.event_from.Reads as event-from-reads
 use Rattle.quay.proofs.lines.list_entry.Reads as list-entry-reads
 use Rattle.quay.proofs.lines.unlisted.Reads as unlisted-reads
@@ -23,8 +23,8 @@ unlisted-requires c κs = search needs
 enum-known-given : tie.Need-enum-known-given
 enum-known-given c = search needs
 
-heard-requires : tie.Need-heard-requires
-heard-requires c κs = search needs
+entry-heard-requires : tie.Need-entry-heard-requires
+entry-heard-requires c κs = search needs
 
 list-entry-requires : tie.Need-list-entry-requires
 list-entry-requires c κs = search needs
@@ -38,7 +38,7 @@ same-length c = search needs
 
 returns-2 : tie.Need-returns-2
 returns-2 c = let some = sym (c .before .before .before .before .before .before .before .before .event-from .ensures) ∙ c .before .before .before .before .before .before .given .given .1 in
-    let listed = rw (c .before .before .before .before .heard .ensures) at (c .before .before .list-entry .ensures) in
+    let listed = rw (c .before .before .before .before .entry-heard .ensures) at (c .before .before .list-entry .ensures) in
     record { answer = rw some (listed .answer); room = rw some (listed .room) }
 
 pub quay-list-event-spec : {M : Type 1} → statement M
@@ -49,7 +49,7 @@ quay-list-event-spec =
     enum-known-why
     unlisted-requires
     enum-known-given
-    heard-requires
+    entry-heard-requires
     list-entry-requires
     returns
     same-length

@@ -1,0 +1,4 @@
+pub mod Anatomy
+pub mod OneAnswer
+pub mod Rebuilding
+pub mod Shortness

@@ -1,0 +1,185 @@
+-- Shown: a good body taken apart and put together is itself, and a body put together from a legal address is good and gives back its parts.
+-- Why: the first byte tells how long the address is, and the check is the only last byte that feeds to 0.
+use Prim.Native.Nat.{ℕ, zero, suc, _+_, _-_, _*_, _/_, _%_, _≤_, _<_}
+use mathlib.Core.Path.{_≡_, _∙_, refl, sym, ap, ap₂}
+use mathlib.Core.Bool.{Bool, true, false, not, cond, _&&_, _||_, true≢false}
+use mathlib.Core.List.{List, [], _∷_, _++_}
+use native.Mathlib.Omega.{arith}
+use native.Mathlib.Numerals.{add-one}
+use native.Mathlib.Nat.{not-suc-le-zero, le-of-suc-le-suc}
+use borrow.Author.Tests.{ltb-false, leb-true, ne-eqb, eqb-true, eq-eqb, not-false}
+use lib.Dec.{T, ltb, leb, eqb, ltb→lt, lit<}
+use lib.ListN.{length, take, drop, getD, length-append, take-append-drop}
+use lib.Seq.{slice, take-at, take-suc, take-take, take-length, slice-cons}
+use lib.Pow.{areBytes}
+use Rattle.refusal.specs.declared.Verdict.the-variants.{Good}
+use Rattle.refusal.proofs.Booleans.{both-left, both-right}
+use Rattle.refusal.proofs.Verdicts.{test-passed, rest-passed}
+use Rattle.room.proofs.ByteLists.{byte-at}
+use Rattle.check_byte.specs.Register.{received, checkOf}
+use Rattle.check_byte.proofs.Laws.{checked, only-check}
+use Rattle.body.specs.declared.addresses.Address.{Address}
+use Rattle.body.specs.declared.addresses.Address.the-variants.{Short, Serial}
+use Rattle.body.specs.Addresses.{legal, addressBytes, addressIn, addressLength}
+use Rattle.body.specs.Body.{unchecked, bodyOf, short, judged, judgedLent, codeIn, dataIn}
+use Rattle.body.proofs.Anatomy.{address-length, unchecked-length, body-length}
+use Rattle.body.proofs.Shortness.{three, address-inside, six, not-short}
+
+-- ---- what a good body is known to have
+
+pub good-check : (body : List ℕ) → judged body ≡ Good → received body ≡ 0
+unfolding judged
+good-check body good =
+    eqb-true (received body) 0 (not-false _ (test-passed (not (eqb (received body) 0)) _ _ (rest-passed (short body) _ _ good)))
+
+pub good-address : (body : List ℕ) → judged body ≡ Good → legal (addressIn body) ≡ true
+unfolding judged
+good-address body good =
+    not-false _ (test-passed (not (legal (addressIn body))) _ _ (rest-passed (not (eqb (received body) 0)) _ _ (rest-passed (short body) _ _ good)))
+
+pub good-long : (body : List ℕ) → judged body ≡ Good → short body ≡ false
+unfolding judged
+good-long body good = test-passed (short body) _ _ good
+
+pub good-not-empty : judged [] ≡ Good → ⊥
+good-not-empty good = let long = three [] (good-long [] good) in omega arith
+
+-- a lent body that is good has at most 255 bytes, and is good at its end
+pub lent-at-most : (body : List ℕ) → judgedLent body ≡ Good → length body ≤ 255
+unfolding judgedLent
+lent-at-most body good = ltb-false 255 (length body) (test-passed (ltb 255 (length body)) _ _ good)
+
+pub lent-good : (body : List ℕ) → judgedLent body ≡ Good → judged body ≡ Good
+unfolding judgedLent
+lent-good body good = rest-passed (ltb 255 (length body)) _ _ good
+
+-- the first byte is never FF or FE
+pub first-low : (body : List ℕ) → judged body ≡ Good → getD body 0 0 < 0xFE
+unfolding addressIn legal
+first-low body good = by-first (eqb (getD body 0 0) 0) refl
+  where
+    by-first : (test : Bool) → eqb (getD body 0 0) 0 ≡ test → getD body 0 0 < 0xFE
+    by-first true zero-first = omega (arith, eqb-true (getD body 0 0) 0 zero-first)
+    by-first false other =
+        omega (arith, leb-true (getD body 0 0) 0x9F (both-right (leb 1 (getD body 0 0)) (leb (getD body 0 0) 0x9F) (rw other at (good-address body good))))
+
+-- ---- put together and taken apart
+
+module _ (code : ℕ) (data′ : List ℕ) where
+  pub address-back : (address : Address) → legal address ≡ true → addressIn (bodyOf address code data′) ≡ address
+  unfolding legal addressIn bodyOf unchecked addressBytes
+  address-back (Short byte) is-legal =
+      let above = leb-true 1 byte (both-left (leb 1 byte) (leb byte 0x9F) is-legal) in
+      rw (ne-eqb byte 0 (λ (e : byte ≡ 0). omega arith))
+  address-back (Serial serial) is-legal =
+      let fits = leb-true serial 16_777_215 is-legal in
+      ap Serial (omega arith)
+
+  -- where the code stands, and where the data
+  code-place : (address : Address) → getD (bodyOf address code data′) (addressLength address) 0 ≡ code
+  unfolding bodyOf unchecked addressBytes addressLength
+  code-place (Short byte) = refl
+  code-place (Serial serial) = refl
+
+  data-place : (address : Address) → drop (addressLength address + 1) (unchecked address code data′) ≡ data′
+  unfolding unchecked addressBytes addressLength
+  data-place (Short byte) = refl
+  data-place (Serial serial) = refl
+
+  module _ (address : Address) (is-legal : legal address ≡ true) where
+    pub code-back : codeIn (bodyOf address code data′) ≡ code
+    unfolding codeIn
+    code-back = ap (λ (a : Address). getD (bodyOf address code data′) (addressLength a) 0) (address-back address is-legal) ∙ code-place address
+
+    -- everything before the check
+    front : take (length (bodyOf address code data′) - 1) (bodyOf address code data′) ≡ unchecked address code data′
+    unfolding bodyOf
+    front =
+        let end : length (unchecked address code data′) ≡ length (unchecked address code data′ ++ (checkOf (unchecked address code data′) ∷ [])) - 1 =
+        omega (arith, length-append (unchecked address code data′) (checkOf (unchecked address code data′) ∷ [])) in
+        take-at (unchecked address code data′) (checkOf (unchecked address code data′) ∷ []) _ end
+
+    pub data-back : dataIn (bodyOf address code data′) ≡ data′
+    unfolding dataIn
+    data-back =
+        ap (λ (a : Address). slice (addressLength a + 1) (length (bodyOf address code data′) - 1) (bodyOf address code data′)) (address-back address is-legal)
+        ∙ ap (λ (l : List ℕ). drop (addressLength address + 1) l) front ∙ data-place address
+
+  -- a body put together is not short
+  long : (address : Address) → legal address ≡ true → short (bodyOf address code data′) ≡ false
+  unfolding legal bodyOf unchecked addressBytes addressLength
+  long (Short byte) is-legal =
+      let above = leb-true 1 byte (both-left (leb 1 byte) (leb byte 0x9F) is-legal) in
+      not-short (bodyOf (Short byte) code data′) (omega (arith, body-length (Short byte) code data′)) (λ (e : byte ≡ 0). omega arith)
+  long (Serial serial) is-legal =
+      not-short (bodyOf (Serial serial) code data′) (omega (arith, body-length (Serial serial) code data′)) (λ _. omega (arith, body-length (Serial serial) code data′))
+
+  -- and it is good
+  pub made-good : (address : Address) → legal address ≡ true → judged (bodyOf address code data′) ≡ Good
+  unfolding judged bodyOf
+  made-good address is-legal =
+      rw (long address is-legal, checked (unchecked address code data′), address-back address is-legal, is-legal)
+
+-- ---- taken apart and put together
+
+first-one : (l : List ℕ) → 1 ≤ length l → take 1 l ≡ getD l 0 0 ∷ []
+first-one [] h = absurd (omega arith)
+first-one (a ∷ l) h = refl
+
+first-four : (l : List ℕ) → 4 ≤ length l → take 4 l ≡ getD l 0 0 ∷ getD l 1 0 ∷ getD l 2 0 ∷ getD l 3 0 ∷ []
+first-four [] h = absurd (omega arith)
+first-four (a ∷ []) h = absurd (omega arith)
+first-four (a ∷ b ∷ []) h = absurd (omega arith)
+first-four (a ∷ b ∷ c ∷ []) h = absurd (omega arith)
+first-four (a ∷ b ∷ c ∷ d ∷ l) h = refl
+
+-- three bytes make a serial, low byte first, and the serial is written as those bytes
+serial-spelled : (low middle high : ℕ) → low < 256 → middle < 256 → high < 256
+    → addressBytes (Serial (low + 256 * middle + 65_536 * high)) ≡ 0 ∷ low ∷ middle ∷ high ∷ []
+unfolding addressBytes
+serial-spelled low middle high l m h =
+    let serial = low + 256 * middle + 65_536 * high in
+    let a : serial % 256 ≡ low = omega arith in
+    let rest : serial / 256 ≡ middle + 256 * high = omega arith in
+    let b : (middle + 256 * high) % 256 ≡ middle = omega arith in
+    let top : serial / 65_536 ≡ high = omega arith in
+    let c : high % 256 ≡ high = omega arith in
+    rw (a, rest, b, top, c)
+
+module _ (body : List ℕ) (all : T (areBytes body)) where
+  -- the bytes that the address takes spell it
+  spelled : short body ≡ false → take (addressLength (addressIn body)) body ≡ addressBytes (addressIn body)
+  unfolding addressIn addressLength addressBytes
+  spelled enough = by-first (eqb (getD body 0 0) 0) refl
+    where
+      by-first : (test : Bool) → eqb (getD body 0 0) 0 ≡ test → take (addressLength (addressIn body)) body ≡ addressBytes (addressIn body)
+      by-first true zero-first =
+          let is-zero = eqb-true (getD body 0 0) 0 zero-first in
+          rw zero-first
+          (first-four body (omega (arith, six body enough is-zero))
+          ∙ ap (λ (n : ℕ). n ∷ getD body 1 0 ∷ getD body 2 0 ∷ getD body 3 0 ∷ []) is-zero
+          ∙ sym (serial-spelled _ _ _ (byte-at body all 1) (byte-at body all 2) (byte-at body all 3)))
+      by-first false other = rw other (first-one body (omega (arith, address-inside body enough)))
+
+  -- everything before the check
+  begins : short body ≡ false → take (length body - 1) body ≡ unchecked (addressIn body) (codeIn body) (dataIn body)
+  unfolding unchecked codeIn dataIn
+  begins enough =
+      let n = addressLength (addressIn body) in
+      let inside = address-inside body enough in
+      let end = length body - 1 in
+      sym (take-append-drop n (take end body))
+      ∙ ap₂ _++_ (take-take n end body (omega arith) ∙ spelled enough)
+      (slice-cons n end body 0 (omega arith) (omega arith) ∙ ap (λ (k : ℕ). getD body n 0 ∷ slice k end body) (sym (add-one n)))
+
+  pub rebuilt : judged body ≡ Good → bodyOf (addressIn body) (codeIn body) (dataIn body) ≡ body
+  unfolding bodyOf
+  rebuilt good =
+      let enough = good-long body good in
+      let inside = address-inside body enough in
+      let end = length body - 1 in
+      let last : suc end ≡ length body = omega arith in
+      let whole : body ≡ take end body ++ (getD body end 0 ∷ []) = sym (take-length body) ∙ ap (λ (k : ℕ). take k body) (sym last) ∙ take-suc body end 0 (omega arith) in
+      let is-check : getD body end 0 ≡ checkOf (take end body) =
+      only-check (take end body) (getD body end 0) (byte-at body all end) (ap received (sym whole) ∙ good-check body good) in
+      ap (λ (l : List ℕ). l ++ (checkOf l ∷ [])) (sym (begins enough)) ∙ ap (λ (k : ℕ). take end body ++ (k ∷ [])) (sym is-check) ∙ sym whole

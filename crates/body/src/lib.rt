@@ -1,0 +1,14 @@
+// The body: what an address is, what a body is and how one is judged, and where in it each part stands (01, "The frame").
+mod addresses;
+mod bodies;
+
+pub use addresses::Address;
+pub use addresses::legal;
+pub use bodies::LONGEST;
+pub use bodies::Opened;
+pub use bodies::Parts;
+pub use bodies::address_length;
+pub use bodies::check_right;
+pub use bodies::judge;
+pub use bodies::open;
+pub use bodies::open_checked;

@@ -1,0 +1,23 @@
+-- Shown: how long the data are whose length is right.
+-- Why: the length rule of a row is a test on the length.
+use Prim.Native.Nat.{ℕ, zero, suc, _≤_}
+use mathlib.Core.Path.{_≡_, refl, ap}
+use mathlib.Core.Bool.{Bool, true, false, _&&_}
+use mathlib.Core.List.{List, [], _∷_}
+use native.Mathlib.Nat.{suc-inj}
+use native.Mathlib.Omega.{arith}
+use borrow.Author.Tests.{eqb-true, leb-true}
+use lib.ListN.{length, getD}
+use Rattle.refusal.proofs.Booleans.{both-left}
+use Rattle.codes.specs.declared.table.Row.{Row}
+use Rattle.codes.specs.declared.table.Length.the-variants.{Exactly, Counted}
+use Rattle.codes.specs.Lengths.{lengthOf, lengthRight}
+
+-- a row of exactly so many bytes
+pub exactly : {row : Row} (named : Row) (count : ℕ) (data′ : List ℕ) → row ≡ named → lengthOf named ≡ Exactly count
+    → lengthRight (lengthOf row) data′ ≡ true → length data′ ≡ count
+exactly named count data′ is rule right = eqb-true (length data′) count (rw (is, rule) at right)
+
+-- a row with a count byte
+pub counted : (data′ : List ℕ) → lengthRight Counted data′ ≡ true → 2 ≤ length data′
+counted data′ right = leb-true 2 (length data′) (both-left _ _ right)

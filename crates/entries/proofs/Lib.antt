@@ -1,0 +1,3 @@
+pub mod Handed
+pub mod Listed
+pub mod OneAnswer

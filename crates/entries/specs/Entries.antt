@@ -1,0 +1,53 @@
+-- 01, "Judged examples": "A capture is read as replies throughout." What each event lists as: a weight, another message, or a refusal.
+use Prim.Native.Nat.{ℕ}
+use mathlib.Core.Bool.{Bool, true}
+use Rattle.body.specs.declared.addresses.Address.{Address}
+use Rattle.line.specs.Listener.{Heard, nothing, frame, refused}
+use Rattle.weight.specs.Bytes.{legal}
+use Rattle.codes.specs.declared.table.Role.the-variants.{Reply}
+use Rattle.message.specs.declared.meaning.What.{What}
+use Rattle.message.specs.declared.meaning.What.the-variants as says
+use Rattle.message.specs.declared.reading.Received.{Received}
+use Rattle.message.specs.declared.reading.Received.the-variants as received-as
+use Rattle.message.specs.Reading.{readIf, readMessage}
+use Rattle.entries.specs.declared.entries.Entry.{Entry}
+use Rattle.entries.specs.declared.entries.Entry.the-variants.{Nothing, Weight, Message, Refused}
+
+-- a message: a weight as one, every other with its address and code
+abbrev pub messageEntry : Address → ℕ → What → Entry
+messageEntry address code (says.Weight load reading) = Weight load address reading
+messageEntry address code says.Nothing = Message address code
+messageEntry address code (says.Serial serial) = Message address code
+messageEntry address code (says.Number number) = Message address code
+messageEntry address code (says.Status status) = Message address code
+messageEntry address code (says.Inputs bits on) = Message address code
+messageEntry address code (says.Outputs bits) = Message address code
+messageEntry address code (says.Text number from to) = Message address code
+messageEntry address code (says.Event event from to) = Message address code
+messageEntry address code (says.Adc value) = Message address code
+messageEntry address code (says.Error error) = Message address code
+
+-- a body that was read, or the refusal it earned
+abbrev pub entryOf : Received → Entry
+entryOf (received-as.Message message) = messageEntry (message .address) (message .code) (message .what)
+entryOf (received-as.Refused why) = Refused why
+
+-- an event of the line: a frame's body is read as a reply; the refusals of the line and of the message list alike
+unfoldable pub entryHeard : Heard → Entry
+entryHeard nothing = Nothing
+entryHeard (frame wire kept body) = entryOf (readMessage Reply body)
+entryHeard (refused why wire kept) = Refused why
+
+-- the same without the check made again: a line hands out a body only where its check is right, so of what it hands out the two are one
+-- (law `handed-out`)
+unfoldable pub entryGiven : Heard → Entry
+entryGiven nothing = Nothing
+entryGiven (frame wire kept body) = entryOf (readIf true Reply body)
+entryGiven (refused why wire kept) = Refused why
+
+-- "A reading handed in with a number above 999,999 or a point above 7 is refusal 8 wherever it is used."
+abbrev pub sound : Entry → Bool
+sound Nothing = true
+sound (Weight load address reading) = legal reading
+sound (Message address code) = true
+sound (Refused why) = true

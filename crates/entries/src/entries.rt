@@ -1,0 +1,63 @@
+// What an event lists as: a weight, another message, or a refusal. A caller counts by it, and looks at no text.
+use body::Address;
+use codes::Load;
+use codes::Role;
+use line::Event;
+use message::Received;
+use message::What;
+use message::read_checked;
+use refusal::Refusal;
+use weight::Reading;
+ghost use mathlib.Core.Path.{_≡_};
+ghost use Rattle.line.specs.Readers.{heardAs};
+ghost use Rattle.entries.specs.Entries.{messageEntry, entryOf, entryGiven};
+
+// What is to be listed.
+pub enum Entry {
+    Nothing,
+    Weight(Load, Address, Reading),
+    Message(Address, u8), // any other message, by its code
+    Refused(Refusal), // of the line or of the message
+}
+
+fn message_entry(address: Address, code: u8, what: What) -> Entry
+    ensures { λ r. ⌜ r ≡ messageEntry address code what ⌝ }
+{
+    if let What::Weight(load, reading) = what {
+        return Entry::Weight(load, address, reading);
+    }
+    Entry::Message(address, code)
+}
+
+// A body that was read, or the refusal it earned.
+pub fn entry_of(received: Received) -> Entry
+    ensures { λ r. ⌜ r ≡ entryOf received ⌝ }
+{
+    match received {
+        Received::Refused(why) => Entry::Refused(why),
+        Received::Message(message) => {
+            let address = message.address;
+            let code = message.code;
+            let what = message.what;
+            message_entry(address, code, what)
+        }
+    }
+}
+
+// An event as it is to be listed. The body of a frame stands at the front of `body`, as the reader leaves it, and is read as a
+// reply, its check not made again; of any other event `body` is not looked at.
+pub fn heard(event: Event, body: &[u8]) -> Entry
+    ensures { λ r. ⌜ r ≡ entryGiven (heardAs event (now (body .entry))) ⌝ }
+{
+    match event {
+        Event::Nothing => Entry::Nothing,
+        Event::Refused(why, _, _) => Entry::Refused(why),
+        Event::Frame(_, place) => {
+            let kept = place.0;
+            if body.len() < kept {
+                return entry_of(read_checked(Role::Reply, true, body));
+            }
+            entry_of(read_checked(Role::Reply, true, &body[0..kept]))
+        }
+    }
+}
