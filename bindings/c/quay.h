@@ -1,0 +1,299 @@
+/* The quay reader for C and C++: the fourteen functions of libquay.a.
+ *
+ * A weight that wasn't heard never looks like a weight of nothing. So each answer has a field `refusal`: 0, or a number of the rules paper's
+ * list, and where it is not 0 no other field can pass for a weight: a value is INT64_MIN, kilograms are not a number, weight bytes are FF.
+ * Ask `refusal` first all the same.
+ *
+ * Proved are the functions in the archive (crates/quay): each for every value of every argument, under the rules below. NOT proved is this
+ * header: the declarations are written by hand. The assertions at its end hold every size and every offset to those of the library, and
+ * tests/host/run calls every function through it; beyond that they are as right as this text.
+ *
+ * Rules of lending, which C cannot hold you to:
+ *  - No pointer is ever null, also where its length is 0: point to any byte then.
+ *  - A pointer and the length behind it lend exactly so many bytes. `body` of quay_listen lends exactly 255.
+ *  - Bytes lent to be written (`room`, and `body` of quay_listen) overlap no other bytes of the same call.
+ *  - The library keeps no pointer and has no state of its own. What it was lent to read it never changes.
+ *  - No two calls at once may share bytes that one of them writes; otherwise any threads may call.
+ *
+ * The archive is for x86-64 and the System V convention (Linux and the like); it needs memcpy and nothing else.
+ */
+#ifndef QUAY_H
+#define QUAY_H
+
+#include <stddef.h>
+#include <stdint.h>
+
+#if defined(_WIN32)
+#error "libquay.a follows the System V convention of x86-64; Windows passes structs in another way"
+#endif
+
+#ifdef __cplusplus
+extern "C" {
+#endif
+
+/* ---- sizes */
+
+enum {
+    QUAY_BODY_ROOM = 255,    /* bytes to lend to quay_listen: the longest body */
+    QUAY_LONGEST_FRAME = 512, /* no frame needs more room */
+    QUAY_LONGEST_LINE = 85,  /* no line of a listing needs more room */
+    QUAY_RECORD_BYTES = 20   /* a record of a log */
+};
+
+/* ---- refusals, by the paper's numbers */
+
+enum {
+    QUAY_NOT_REFUSED = 0,
+    QUAY_BODY_SHORT = 1,      /* a body of under 3 bytes, or of under 6 where its first is 00 */
+    QUAY_BODY_LONG = 2,       /* a body of more than 255 bytes */
+    QUAY_HELD_BROKEN = 3,     /* behind an FF inside a body stood neither FE nor FF */
+    QUAY_CHECK_WRONG = 4,     /* the check byte is wrong */
+    QUAY_ADDRESS_ILLEGAL = 5, /* an address that no frame may carry */
+    QUAY_CODE_UNKNOWN = 6,    /* a code that the table does not have in that role */
+    QUAY_LENGTH_WRONG = 7,    /* data of a length that is wrong for the code */
+    QUAY_FIELD_OUTSIDE = 8,   /* a field outside its values; also a phase, role, kind or refusal handed in that is none */
+    QUAY_ROOM_SHORT = 9,      /* the lent room is shorter than needed */
+    QUAY_LOG_LEFT_OVER = 10,  /* 1 to 19 bytes left over in a log */
+    QUAY_RECORD_BROKEN = 11   /* a record that breaks a rule */
+};
+
+/* ---- numbers of the fields */
+
+enum { QUAY_SEEKING = 0, QUAY_DELIMITED = 1, QUAY_INSIDE = 2, QUAY_HELD = 3 }; /* QuayPlace.phase */
+
+enum { QUAY_EVENT_NOTHING = 0, QUAY_EVENT_FRAME = 1, QUAY_EVENT_REFUSED = 2 }; /* QuayEvent.kind */
+
+enum { QUAY_REQUEST = 0, QUAY_REPLY = 1 }; /* role */
+
+enum { QUAY_GROSS = 1, QUAY_NET = 2 }; /* QuayWhat.load; 0 where no weight is said */
+
+enum { QUAY_NO_RECORD = 0, QUAY_RECORD_GROSS = 1, QUAY_RECORD_NET = 2, QUAY_RECORD_REFUSED = 3 }; /* QuayRecord.kind */
+
+enum { QUAY_ENTRY_NOTHING = 0, QUAY_ENTRY_WEIGHT = 1, QUAY_ENTRY_MESSAGE = 2, QUAY_ENTRY_REFUSED = 3 }; /* QuayListed.entry */
+
+enum { /* QuayWhat.says: what a message says, and in which fields */
+    QUAY_SAYS_NOTHING = 0,
+    QUAY_SAYS_SERIAL = 1,    /* number: the serial */
+    QUAY_SAYS_NUMBER = 2,    /* number: NUM */
+    QUAY_SAYS_STATUS = 3,    /* number: the status */
+    QUAY_SAYS_WEIGHT = 4,    /* weight and load */
+    QUAY_SAYS_INPUTS = 5,    /* number: the 32 bits, the first byte lowest; on: how many are 1 */
+    QUAY_SAYS_OUTPUTS = 6,   /* number: the 32 bits, the first byte lowest */
+    QUAY_SAYS_TEXT = 7,      /* number: NUM; from, to: its characters in the body */
+    QUAY_SAYS_EVENT = 8,     /* number: EVENT; from, to: its six bytes in the body */
+    QUAY_SAYS_CONVERTER = 9, /* number: the converter's number */
+    QUAY_SAYS_ERROR = 10     /* number: NER */
+};
+
+/* ---- structs, by value both ways */
+
+/* Where a reader stands. All zeros are a fresh reader: QuayPlace place = {0, 0, QUAY_SEEKING}; */
+typedef struct QuayPlace {
+    uint64_t wire; /* bytes taken since the reader started, modulo 2^64 */
+    size_t kept;   /* body bytes kept: the first so many of the lent 255 */
+    uint8_t phase;
+} QuayPlace;
+
+/* An event of the line. Its two counts never stand in for each other. */
+typedef struct QuayEvent {
+    uint64_t wire;   /* the place on the wire, with the byte that gave the event */
+    size_t kept;     /* body bytes kept at that moment; of a frame, how many bytes its body has */
+    uint8_t kind;
+    uint8_t refusal; /* of the line; 0 unless the kind is QUAY_EVENT_REFUSED */
+} QuayEvent;
+
+typedef struct QuayWent {
+    QuayPlace place; /* hand it in with the next block */
+    QuayEvent event;
+    size_t used;     /* bytes of the block that were taken */
+    uint8_t refusal; /* of the call, not of the line */
+} QuayWent;
+
+/* The four bytes of a weight as the wire has them. Four times FF are no weight: every use of them is refused. */
+typedef struct QuayWeight {
+    uint8_t w0, w1, w2, con;
+} QuayWeight;
+
+/* What a terminal shows; the marks are 0 or 1. Refused, every other field is all ones. */
+typedef struct QuayReading {
+    uint32_t number; /* 0 to 999,999 */
+    uint8_t point;   /* digits after the point, 0 to 7 */
+    uint8_t minus;
+    uint8_t bit6;
+    uint8_t bit5;
+    uint8_t settled;
+    uint8_t overload;
+    uint8_t refusal;
+} QuayReading;
+
+typedef struct QuayValue {
+    int64_t value; /* tenths of a milligram; refused, INT64_MIN */
+    uint8_t refusal;
+} QuayValue;
+
+typedef struct QuayKilograms {
+    double kilograms; /* refused, not a number */
+    uint8_t refusal;
+} QuayKilograms;
+
+/* What a write answers. Refused, length 0, and every byte of the room as it stood. Else only its own length of bytes changed. */
+typedef struct QuayWritten {
+    size_t length;
+    uint8_t refusal;
+} QuayWritten;
+
+typedef struct QuayListed {
+    size_t length;
+    uint8_t entry; /* what was listed, for the counts of the total */
+    uint8_t refusal;
+} QuayListed;
+
+/* What a message says. Fields that it does not have are 0, and a weight that it does not have is four times FF. */
+typedef struct QuayWhat {
+    uint64_t number;
+    size_t from; /* where in the lent body a text or an event's bytes begin */
+    size_t to;   /* the place behind them */
+    uint32_t on;
+    QuayWeight weight;
+    uint8_t load;
+    uint8_t says;
+} QuayWhat;
+
+typedef struct QuayMessage {
+    QuayWhat what;
+    size_t from;           /* where in the lent body the data begin */
+    size_t to;             /* the place behind them */
+    uint32_t serial;
+    uint8_t short_address; /* 0 says that the serial is the address (`short` in the library: C keeps that word for itself) */
+    uint8_t code;
+    uint8_t refusal;
+} QuayMessage;
+
+/* A record of a log. Kind 0 is no record, and has weight bytes FF: refused where `refusal` is not 0, else there was none to tell. */
+typedef struct QuayRecord {
+    uint64_t time;
+    uint32_t serial;
+    uint8_t kind;
+    uint8_t address;
+    uint8_t status;     /* CON of a weight; of QUAY_RECORD_REFUSED the refusal's number */
+    uint8_t w0, w1, w2;
+    uint8_t refusal;
+} QuayRecord;
+
+typedef struct QuayStepped {
+    QuayRecord item;
+    size_t next; /* the place behind the record; without a record the place handed in */
+} QuayStepped;
+
+/* ---- the line */
+
+/* Takes bytes of a block up to and with the first event, or to the block's end; hand in the rest of the block, from `used` on, next.
+ * An empty block takes nothing and hands the place back as it stood. A place with more than 255 kept bytes is treated as fresh, wire count 0.
+ * Refusals of the call: 8 where the place has no such phase; then nothing is taken, and the place and all of `body` are as they stood.
+ * Refusals of the line are no refusal of the call: they stand in `event`, by 1, 2, 3, 4 or 5 (at a body's end judged 1, 4, 5).
+ * Lent: `body`, exactly 255 bytes, the same ones with each block as they were left, whatever they held at first. After a frame its body is
+ * the first event.kept of them, until the next call. Bytes behind those kept are as they stood. */
+QuayWent quay_listen(QuayPlace place, const uint8_t *block, size_t block_length, uint8_t body[QUAY_BODY_ROOM]);
+
+/* ---- frames and messages
+ *
+ * An address is a short one (1 to 9F) with serial 0, or short address 0 with a serial (0 to 16,777,215). Both at once are no address. */
+
+/* Writes the frame of an address, any code and data: delimiters, inserted FEs and check as they go on the wire.
+ * Refusals: 5 (no address), 2 (the body would pass 255), 9 (room), in this order. */
+QuayWritten quay_write_frame(uint8_t short_address, uint32_t serial, uint8_t code, const uint8_t *data, size_t data_length, uint8_t *room,
+                             size_t room_length);
+
+/* Writes the frame of a message in a role, from the data of the paper's table.
+ * Refusals: 8 where the role is none; then 5, 6, 7, 8 (a field of the data), 2, 9, in this order. */
+QuayWritten quay_write_message(uint8_t role, uint8_t short_address, uint32_t serial, uint8_t code, const uint8_t *data, size_t data_length,
+                               uint8_t *room, size_t room_length);
+
+/* Reads a body (address, code, data, check; no delimiters) in a role. Its check is made here, also for a body that quay_listen handed out.
+ * Refusals: 8 where the role is none; then 2 (over 255 bytes), 1, 4, 5, 6, 7, 8, in this order. Refused, every other field is 0 and the
+ * weight four times FF. */
+QuayMessage quay_read_message(uint8_t role, const uint8_t *body, size_t body_length);
+
+/* ---- weights. Refusal: 8, a half of W0, W1 or W2 that is no decimal digit. CON is any byte. */
+
+/* The reading that four bytes show. */
+QuayReading quay_read_weight(QuayWeight weight);
+
+/* The value in tenths of a milligram, -9,999,990,000,000 to 9,999,990,000,000. */
+QuayValue quay_value(QuayWeight weight);
+
+/* Gross less net in tenths of a milligram; it may be negative. Refused where either is refused. */
+QuayValue quay_difference(QuayWeight gross, QuayWeight net);
+
+/* The value in kilograms, rounded once. A weight of minus nothing is plus zero. */
+QuayKilograms quay_kilograms(QuayWeight weight);
+
+/* ---- the log */
+
+/* Writes a record's 20 bytes. Refusals: 11 (a record that breaks a rule, kind 0, or one that carries a refusal), 9, in this order. */
+QuayWritten quay_write_record(QuayRecord item, uint8_t *room, size_t room_length);
+
+/* Reads a record of 20 bytes. Refusal: 11, also for more bytes or fewer. */
+QuayRecord quay_read_record(const uint8_t *bytes, size_t bytes_length);
+
+/* The record at a byte place of a log. At or past its end: kind 0 and no refusal.
+ * Refusals: 10 (1 to 19 bytes left over), 11, in this order. */
+QuayStepped quay_step(const uint8_t *log, size_t log_length, size_t place);
+
+/* The record that an event makes at a time, in the role in which the line is read: a gross or net reply, or a refusal by 1 to 8 of the line
+ * or of its message. Kind 0 and no refusal where it makes none. Of a frame, its body is the first event.kept of the lent bytes (all of them
+ * where they are fewer), and is judged again, check and all.
+ * Refusals: 8 where the role is none, or the event's kind, or the number of its refusal (1 to 11 are refusals). */
+QuayRecord quay_record_heard(uint64_t time, uint8_t role, QuayEvent event, const uint8_t *body, size_t body_length);
+
+/* ---- the listing */
+
+/* Writes the line of an event, newline and all, as the event of that number; the line is read as replies. Where there was no event there is
+ * no line: length 0, entry 0, no refusal. Of a frame, its body is the first event.kept of the lent bytes (all of them where they are fewer).
+ * ITS CHECK IS NOT MADE AGAIN: lend what quay_listen left, with the event it gave, before the next call of quay_listen.
+ * Refusals: 8 where the event's kind is none, or the number of its refusal (entry 0 then); 9 (entry as if it had fitted), in this order. */
+QuayListed quay_list_event(uint64_t number, QuayEvent event, const uint8_t *body, size_t body_length, uint8_t *room, size_t room_length);
+
+/* Writes the total line: all events, weights and refusals of the listing. Refusal: 9. */
+QuayWritten quay_list_total(uint64_t total, uint64_t weights, uint64_t refused, uint8_t *room, size_t room_length);
+
+#ifdef __cplusplus
+}
+#endif
+
+/* ---- every size and every offset of the library, asserted: a compiler that lays a struct out in another way stops here */
+
+#ifdef __cplusplus
+#define QUAY_HOLDS(claim, words) static_assert(claim, words)
+#else
+#define QUAY_HOLDS(claim, words) _Static_assert(claim, words)
+#endif
+#define QUAY_SIZE(type, size) QUAY_HOLDS(sizeof(type) == (size), #type " has another size in libquay.a")
+#define QUAY_AT(type, field, place) QUAY_HOLDS(offsetof(type, field) == (place), #type "." #field " stands elsewhere in libquay.a")
+
+QUAY_SIZE(size_t, 8); QUAY_SIZE(double, 8);
+QUAY_SIZE(QuayPlace, 24); QUAY_AT(QuayPlace, wire, 0); QUAY_AT(QuayPlace, kept, 8); QUAY_AT(QuayPlace, phase, 16);
+QUAY_SIZE(QuayEvent, 24); QUAY_AT(QuayEvent, wire, 0); QUAY_AT(QuayEvent, kept, 8); QUAY_AT(QuayEvent, kind, 16); QUAY_AT(QuayEvent, refusal, 17);
+QUAY_SIZE(QuayWent, 64); QUAY_AT(QuayWent, place, 0); QUAY_AT(QuayWent, event, 24); QUAY_AT(QuayWent, used, 48); QUAY_AT(QuayWent, refusal, 56);
+QUAY_SIZE(QuayWeight, 4); QUAY_AT(QuayWeight, w0, 0); QUAY_AT(QuayWeight, w1, 1); QUAY_AT(QuayWeight, w2, 2); QUAY_AT(QuayWeight, con, 3);
+QUAY_SIZE(QuayReading, 12); QUAY_AT(QuayReading, number, 0); QUAY_AT(QuayReading, point, 4); QUAY_AT(QuayReading, minus, 5);
+    QUAY_AT(QuayReading, bit6, 6); QUAY_AT(QuayReading, bit5, 7); QUAY_AT(QuayReading, settled, 8); QUAY_AT(QuayReading, overload, 9);
+    QUAY_AT(QuayReading, refusal, 10);
+QUAY_SIZE(QuayValue, 16); QUAY_AT(QuayValue, value, 0); QUAY_AT(QuayValue, refusal, 8);
+QUAY_SIZE(QuayKilograms, 16); QUAY_AT(QuayKilograms, kilograms, 0); QUAY_AT(QuayKilograms, refusal, 8);
+QUAY_SIZE(QuayWritten, 16); QUAY_AT(QuayWritten, length, 0); QUAY_AT(QuayWritten, refusal, 8);
+QUAY_SIZE(QuayListed, 16); QUAY_AT(QuayListed, length, 0); QUAY_AT(QuayListed, entry, 8); QUAY_AT(QuayListed, refusal, 9);
+QUAY_SIZE(QuayWhat, 40); QUAY_AT(QuayWhat, number, 0); QUAY_AT(QuayWhat, from, 8); QUAY_AT(QuayWhat, to, 16); QUAY_AT(QuayWhat, on, 24);
+    QUAY_AT(QuayWhat, weight, 28); QUAY_AT(QuayWhat, load, 32); QUAY_AT(QuayWhat, says, 33);
+QUAY_SIZE(QuayMessage, 64); QUAY_AT(QuayMessage, what, 0); QUAY_AT(QuayMessage, from, 40); QUAY_AT(QuayMessage, to, 48);
+    QUAY_AT(QuayMessage, serial, 56); QUAY_AT(QuayMessage, short_address, 60); QUAY_AT(QuayMessage, code, 61); QUAY_AT(QuayMessage, refusal, 62);
+QUAY_SIZE(QuayRecord, 24); QUAY_AT(QuayRecord, time, 0); QUAY_AT(QuayRecord, serial, 8); QUAY_AT(QuayRecord, kind, 12);
+    QUAY_AT(QuayRecord, address, 13); QUAY_AT(QuayRecord, status, 14); QUAY_AT(QuayRecord, w0, 15); QUAY_AT(QuayRecord, w1, 16);
+    QUAY_AT(QuayRecord, w2, 17); QUAY_AT(QuayRecord, refusal, 18);
+QUAY_SIZE(QuayStepped, 32); QUAY_AT(QuayStepped, item, 0); QUAY_AT(QuayStepped, next, 24);
+
+#undef QUAY_HOLDS
+#undef QUAY_SIZE
+#undef QUAY_AT
+
+#endif
