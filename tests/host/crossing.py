@@ -1,0 +1,263 @@
+"""What each function of the export library answers, from the second model.
+
+The rules themselves are tests/model's. Here stands only what crossing to another language adds to them, written from the promises in
+crates/quay/specs: phases, roles, kinds and refusals as numbers, and 8 for a number that is none; an address as two numbers; and what the
+fields hold where something is refused. Each function takes the inputs of a case line in their order and gives its answer's words.
+"""
+
+from __future__ import annotations
+
+import os
+import sys
+from typing import Union
+
+sys.path.append(os.path.join(os.path.dirname(os.path.abspath(__file__)), '..', 'model'))
+
+import frame  # noqa: E402 (the model's folder is only now on the path)
+import line  # noqa: E402
+import listing  # noqa: E402
+import log  # noqa: E402
+import message  # noqa: E402
+import weight  # noqa: E402
+from check_byte import check_of  # noqa: E402
+from refusals import ACCEPTED, FIELD_WRONG, RECORD_WRONG  # noqa: E402
+
+PHASES = ('seeking', 'delimited', 'inside', 'held')
+NOTHING, FRAME, REFUSED = 0, 1, 2
+ENTRIES = {'weight': 1, 'message': 2, 'refused': 3}
+LOADS = {message.GROSS: 1, message.NET: 2}
+REFUSALS = range(1, 12)
+
+ALL_ONES = 0xFFFFFFFF
+NO_READING = (ALL_ONES,) + (255,) * 6
+NO_VALUE = -2 ** 63
+NO_WEIGHT = b'\xff\xff\xff\xff'
+NO_DIGITS = b'\xff\xff\xff'
+
+Word = Union[int, bytes, str]
+Answer = tuple[Word, ...]
+Address = tuple[str, int]
+
+
+def address_of(short: int, serial: int) -> Address:
+    """A short address and serial 0, or short 0 and a serial. Both at once are the short address 0, which no frame may carry."""
+    if short == 0:
+        return ('serial', serial)
+    return ('short', short if serial == 0 else 0)
+
+
+def numbers_of(address: Address) -> tuple[int, int]:
+    """A legal address as its two numbers."""
+    kind, number = address
+    return (number, 0) if kind == 'short' else (0, number)
+
+
+# ---- the line
+
+def event_words(event: line.Event | None) -> Answer:
+    """Kind, refusal, wire count, body count."""
+    if event is None:
+        return (NOTHING, 0, 0, 0)
+    return (REFUSED if event.number else FRAME, event.number, event.wire, event.count)
+
+
+def listen(phase: int, wire: int, kept: int, body: bytes, block: bytes) -> Answer:
+    """A block up to and with the first event. Of the lent 255 bytes only the front changes: after each byte the kept bytes stand there, and
+    what lies behind them is as it stood."""
+    if phase >= len(PHASES):
+        return (FIELD_WRONG, phase, wire, kept, body, 0, NOTHING, 0, 0, 0)
+    state, event, used = line.State(PHASES[phase], wire, kept, body), None, 0
+    for byte in block:
+        state, event = line.feed(state, byte)
+        used += 1
+        front = line.kept_bytes(state)
+        body = front + body[len(front):]
+        if event is not None:
+            break
+    assert event is None or event.number or body[:event.count] == event.body
+    return (ACCEPTED, PHASES.index(state.phase), state.wire, state.count, body, used) + event_words(event)
+
+
+def event_given(kind: int, refusal: int, wire: int, kept: int, body: bytes) -> tuple[int, line.Event | None]:
+    """An event handed in, its body at the front of the lent bytes, or as many of them as there are. 8 where it is none."""
+    if kind == NOTHING:
+        return ACCEPTED, None
+    if kind == FRAME:
+        return ACCEPTED, line.Event(ACCEPTED, wire, kept, body[:kept])
+    if kind == REFUSED and refusal in REFUSALS:
+        return ACCEPTED, line.Event(refusal, wire, kept, b'')
+    return FIELD_WRONG, None
+
+
+# ---- frames and messages
+
+def write_frame(short: int, serial: int, code: int, data: bytes, room: bytes) -> Answer:
+    lent = bytearray(room)
+    return frame.write_frame(address_of(short, serial), code, data, lent) + (bytes(lent),)
+
+
+def write_message(role: int, short: int, serial: int, code: int, data: bytes, room: bytes) -> Answer:
+    if role >= len(message.ROLES):
+        return (FIELD_WRONG, 0, room)
+    lent = bytearray(room)
+    return message.write_message(message.ROLES[role], address_of(short, serial), code, data, lent) + (bytes(lent),)
+
+
+def plain(says: int, number: int, on: int = 0) -> Answer:
+    return (says, number, on, 0, NO_WEIGHT, 0, 0)
+
+
+# What a row of the table says of its data, which begin at `start` of the body:
+# says, number, on, load, weight, and from where to where a text stands.
+SAYS = {
+    message.NONE: lambda start, code, data: plain(0, 0),
+    message.SERIAL: lambda start, code, data: plain(1, message.low_first(data)),
+    message.PRINTER: lambda start, code, data: plain(2, data[0]),
+    message.DISPLAY: lambda start, code, data: plain(2, data[0]),
+    message.STATUS: lambda start, code, data: plain(3, data[0]),
+    message.WEIGHT: lambda start, code, data: (4, 0, 0, LOADS[code], data, 0, 0),
+    message.INPUTS: lambda start, code, data: plain(5, message.low_first(data), message.inputs_on(data)),
+    message.FOUR_BYTES: lambda start, code, data: plain(6, message.low_first(data)),
+    message.DISPLAY_TEXT: lambda start, code, data: (7, data[0], 0, 0, NO_WEIGHT, start + 2, start + len(data)),
+    message.TEXT: lambda start, code, data: (7, data[0], 0, 0, NO_WEIGHT, start + 2, start + len(data)),
+    message.EVENT: lambda start, code, data: (8, data[0], 0, 0, NO_WEIGHT, start + 1, start + len(data)),
+    message.FIVE_BYTES: lambda start, code, data: plain(9, message.low_first(data)),
+    message.ERROR: lambda start, code, data: plain(10, data[0]),
+}
+
+
+def read_message(role: int, body: bytes) -> Answer:
+    if role >= len(message.ROLES):
+        return (FIELD_WRONG, 0, 0, 0, 0, 0) + plain(0, 0)
+    answer = message.read_message(message.ROLES[role], body)
+    if answer[0] != ACCEPTED:
+        return (answer[0], 0, 0, 0, 0, 0) + plain(0, 0)
+    _, address, code, data, _ = answer
+    start = len(frame.address_bytes(address)) + 1
+    said = SAYS[message.row(message.ROLES[role], code)](start, code, data)
+    return (ACCEPTED,) + numbers_of(address) + (code, start, start + len(data)) + said
+
+
+# ---- weights
+
+def read_weight(four: bytes) -> Answer:
+    answer = weight.read_reading(four)
+    if answer[0] != ACCEPTED:
+        return answer + NO_READING
+    reading = answer[1]
+    return (ACCEPTED, reading.number, reading.point, reading.minus, reading.six, reading.five, reading.settled, reading.overload)
+
+
+def value(four: bytes) -> Answer:
+    answer = weight.read_reading(four)
+    return answer + (NO_VALUE,) if answer[0] != ACCEPTED else weight.value(answer[1])
+
+
+def difference(gross: bytes, net: bytes) -> Answer:
+    readings = [weight.read_reading(four) for four in (gross, net)]
+    refused = [answer for answer in readings if answer[0] != ACCEPTED]
+    if refused:
+        return refused[0] + (NO_VALUE,)
+    return weight.difference(readings[0][1], readings[1][1])
+
+
+def kilograms(four: bytes) -> Answer:
+    answer = weight.read_reading(four)
+    if answer[0] != ACCEPTED:
+        return answer + ('nan',)
+    return (ACCEPTED, weight.float_bits(weight.kilograms(answer[1])[1]))
+
+
+# ---- the log
+
+def no_record(refusal: int) -> Answer:
+    return (refusal, 0, 0, 0, 0, 0, NO_DIGITS)
+
+
+def record_words(record: log.Record | None) -> Answer:
+    return no_record(ACCEPTED) if record is None else (ACCEPTED,) + tuple(record)
+
+
+def write_record(time: int, kind: int, address: int, serial: int, status: int, digits: bytes, carried: int, room: bytes) -> Answer:
+    """What carries a refusal is no record."""
+    if carried != ACCEPTED:
+        return (RECORD_WRONG, 0, room)
+    lent = bytearray(room)
+    return log.write_record(log.Record(time, kind, address, serial, status, digits), lent) + (bytes(lent),)
+
+
+def read_record(lent: bytes) -> Answer:
+    """A record has 20 bytes, no more and no fewer."""
+    if len(lent) != log.RECORD_LENGTH:
+        return no_record(RECORD_WRONG)
+    answer = log.read_record(lent)
+    return record_words(answer[1]) if answer[0] == ACCEPTED else no_record(answer[0])
+
+
+def step(whole: bytes, place: int) -> Answer:
+    """Without a record the next place is the one handed in."""
+    answer = log.step(whole, place)
+    if answer[0] == 'end':
+        return no_record(ACCEPTED) + (place,)
+    if answer[0] != ACCEPTED:
+        return no_record(answer[0]) + (place,)
+    return record_words(answer[1]) + (answer[2],)
+
+
+def record_heard(time: int, role: int, kind: int, refusal: int, wire: int, kept: int, body: bytes) -> Answer:
+    """A refusal that isn't met on the line (9, 10, 11) makes no record."""
+    if role >= len(message.ROLES):
+        return no_record(FIELD_WRONG)
+    number, event = event_given(kind, refusal, wire, kept, body)
+    if number != ACCEPTED:
+        return no_record(number)
+    if event is None or event.number not in (ACCEPTED, *log.LINE_REFUSALS):
+        return no_record(ACCEPTED)
+    return record_words(log.record_heard(time, message.ROLES[role], event))
+
+
+# ---- the listing
+
+def with_right_check(body: bytes) -> bytes:
+    return body[:-1] + bytes([check_of(body[:-1])])
+
+
+def list_event(number: int, kind: int, refusal: int, wire: int, kept: int, body: bytes, room: bytes) -> Answer:
+    """A frame's check is not made again: what a line hands out had a right one. So a body lists as it would with its check made right."""
+    refused, event = event_given(kind, refusal, wire, kept, body)
+    if refused != ACCEPTED:
+        return (refused, 0, 0, room)
+    if event is None:
+        return (ACCEPTED, 0, 0, room)
+    if event.body:
+        event = event._replace(body=with_right_check(event.body))
+    lent = bytearray(room)
+    written = listing.write_line(number, event, lent)
+    return written + (ENTRIES[listing.entry(event)[0]], bytes(lent))
+
+
+def list_total(total: int, weights: int, refused: int, room: bytes) -> Answer:
+    lent = bytearray(room)
+    return listing.write_total(total, weights, refused, lent) + (bytes(lent),)
+
+
+# ---- case lines
+
+FUNCTIONS = {function.__name__: function for function in (
+    listen, write_frame, write_message, read_message, read_weight, value, difference, kilograms, write_record, read_record, step,
+    record_heard, list_event, list_total)}
+
+
+def word_of(thing: Word) -> str:
+    """Numbers decimal, bytes lowercase hex, no bytes `-`."""
+    if isinstance(thing, int):
+        return str(thing)
+    if isinstance(thing, str):
+        return thing
+    return thing.hex() or '-'
+
+
+def line_of(name: str, *inputs: Word) -> str:
+    """The case line of a function and its inputs, with the answer that is expected of it."""
+    answer = FUNCTIONS[name](*inputs)
+    return ' '.join((name, *map(word_of, inputs), '=', *map(word_of, answer)))
