@@ -144,6 +144,14 @@ static void say_number(struct answer *out, uint64_t number)
     say(out, word);
 }
 
+static void say_each(struct answer *out, const uint64_t *numbers, size_t count)
+{
+    for (size_t each = 0; each < count; each++)
+        say_number(out, numbers[each]);
+}
+
+#define SAY_NUMBERS(out, ...) say_each(out, (const uint64_t[]){__VA_ARGS__}, sizeof((const uint64_t[]){__VA_ARGS__}) / sizeof(uint64_t))
+
 static void say_signed(struct answer *out, int64_t number)
 {
     char word[24];

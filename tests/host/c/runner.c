@@ -22,7 +22,7 @@ static QuayEvent take_event(struct inputs *in)
 static QuayWeight take_weight(struct inputs *in)
 {
     struct lent four = take_exactly(in, 4, true);
-    return (QuayWeight){four.bytes[0], four.bytes[1], four.bytes[2], four.bytes[3]};
+    return (QuayWeight){.w0 = four.bytes[0], .w1 = four.bytes[1], .w2 = four.bytes[2], .con = four.bytes[3]};
 }
 
 static void say_room(struct answer *out, struct lent room)
@@ -32,31 +32,21 @@ static void say_room(struct answer *out, struct lent room)
 
 static void say_written(struct answer *out, QuayWritten written, struct lent room)
 {
-    say_number(out, written.refusal);
-    say_number(out, written.length);
+    SAY_NUMBERS(out, written.refusal, written.length);
     say_room(out, room);
 }
 
 static void say_record(struct answer *out, QuayRecord item)
 {
-    say_number(out, item.refusal);
-    say_number(out, item.time);
-    say_number(out, item.kind);
-    say_number(out, item.address);
-    say_number(out, item.serial);
-    say_number(out, item.status);
+    SAY_NUMBERS(out, item.refusal, item.time, item.kind, item.address, item.serial, item.status);
     say_bytes(out, (uint8_t[]){item.w0, item.w1, item.w2}, 3);
 }
 
 static void say_what(struct answer *out, QuayWhat what)
 {
-    say_number(out, what.says);
-    say_number(out, what.number);
-    say_number(out, what.on);
-    say_number(out, what.load);
+    SAY_NUMBERS(out, what.says, what.number, what.on, what.load);
     say_bytes(out, (uint8_t[]){what.weight.w0, what.weight.w1, what.weight.w2, what.weight.con}, 4);
-    say_number(out, what.from);
-    say_number(out, what.to);
+    SAY_NUMBERS(out, what.from, what.to);
 }
 
 static void say_value(struct answer *out, QuayValue value)
@@ -76,16 +66,9 @@ static void listen(struct inputs *in, struct answer *out)
     struct lent body = take_exactly(in, QUAY_BODY_ROOM, false);
     struct lent block = take_bytes(in, true);
     QuayWent went = quay_listen(place, block.bytes, block.length, body.bytes);
-    say_number(out, went.refusal);
-    say_number(out, went.place.phase);
-    say_number(out, went.place.wire);
-    say_number(out, went.place.kept);
+    SAY_NUMBERS(out, went.refusal, went.place.phase, went.place.wire, went.place.kept);
     say_room(out, body);
-    say_number(out, went.used);
-    say_number(out, went.event.kind);
-    say_number(out, went.event.refusal);
-    say_number(out, went.event.wire);
-    say_number(out, went.event.kept);
+    SAY_NUMBERS(out, went.used, went.event.kind, went.event.refusal, went.event.wire, went.event.kept);
 }
 
 static void write_frame(struct inputs *in, struct answer *out)
@@ -114,23 +97,15 @@ static void read_message(struct inputs *in, struct answer *out)
     uint8_t role = take_byte(in);
     struct lent body = take_bytes(in, true);
     QuayMessage message = quay_read_message(role, body.bytes, body.length);
-    say_number(out, message.refusal);
-    say_number(out, message.short_address);
-    say_number(out, message.serial);
-    say_number(out, message.code);
-    say_number(out, message.from);
-    say_number(out, message.to);
+    SAY_NUMBERS(out, message.refusal, message.short_address, message.serial, message.code, message.from, message.to);
     say_what(out, message.what);
 }
 
 static void read_weight(struct inputs *in, struct answer *out)
 {
     QuayReading reading = quay_read_weight(take_weight(in));
-    const uint8_t marks[] = {reading.point, reading.minus, reading.bit6, reading.bit5, reading.settled, reading.overload};
-    say_number(out, reading.refusal);
-    say_number(out, reading.number);
-    for (size_t each = 0; each < sizeof marks; each++)
-        say_number(out, marks[each]);
+    SAY_NUMBERS(out, reading.refusal, reading.number, reading.point, reading.minus, reading.bit6, reading.bit5, reading.settled,
+                reading.overload);
 }
 
 static void value(struct inputs *in, struct answer *out)
@@ -204,9 +179,7 @@ static void list_event(struct inputs *in, struct answer *out)
     struct lent body = take_bytes(in, true);
     struct lent room = take_bytes(in, false);
     QuayListed listed = quay_list_event(number, event, body.bytes, body.length, room.bytes, room.length);
-    say_number(out, listed.refusal);
-    say_number(out, listed.length);
-    say_number(out, listed.entry);
+    SAY_NUMBERS(out, listed.refusal, listed.length, listed.entry);
     say_room(out, room);
 }
 
