@@ -34,10 +34,10 @@ extern "C" {
 /* ---- sizes */
 
 enum {
-    QUAY_BODY_ROOM = 255,    /* bytes to lend to quay_listen: the longest body */
+    QUAY_BODY_ROOM = 255,     /* bytes to lend to quay_listen: the longest body */
     QUAY_LONGEST_FRAME = 512, /* no frame needs more room */
-    QUAY_LONGEST_LINE = 85,  /* no line of a listing needs more room */
-    QUAY_RECORD_BYTES = 20   /* a record of a log */
+    QUAY_LONGEST_LINE = 85,   /* no line of a listing needs more room */
+    QUAY_RECORD_BYTES = 20    /* a record of a log */
 };
 
 /* ---- refusals, by the paper's numbers */
