@@ -1,0 +1,89 @@
+//! The listing: events as lines of text, and the total line.
+use crate::line::Event;
+use crate::raw;
+use crate::refusal::{judged, other_version, Refusal};
+use crate::writing::length_written;
+
+/// No line of a listing is longer, its newline with it.
+pub const LONGEST_LINE: usize = 85;
+
+/// What was listed.
+#[derive(Clone, Copy, Debug, PartialEq, Eq, Hash)]
+#[repr(u8)]
+pub enum Entry {
+    /// A weight.
+    Weight = 1,
+    /// Another message.
+    Message = 2,
+    /// A refusal: not a weight.
+    Refused = 3,
+}
+
+/// A line that was written.
+#[derive(Clone, Copy, Debug, PartialEq, Eq, Hash)]
+pub struct Listed {
+    /// Its length, with its newline.
+    pub length: usize,
+    /// What it tells, for the counts of the total.
+    pub entry: Entry,
+}
+
+/// The counts of a listing.
+#[derive(Clone, Copy, Debug, Default, PartialEq, Eq, Hash)]
+pub struct Total {
+    /// All events.
+    pub events: u64,
+    /// Those that were weights.
+    pub weights: u64,
+    /// Those that were refused.
+    pub refused: u64,
+}
+
+impl Total {
+    /// One more event, told by what was listed of it.
+    pub fn count(&mut self, entry: Entry) {
+        self.events = self.events.wrapping_add(1);
+        match entry {
+            Entry::Weight => self.weights = self.weights.wrapping_add(1),
+            Entry::Message => {}
+            Entry::Refused => self.refused = self.refused.wrapping_add(1),
+        }
+    }
+}
+
+/// The line of an event, which is read as a reply, into lent room; or 9, and the room as it stood. Events are numbered from 1.
+///
+/// ```
+/// use quay::{list_event, Entry, Event, Refusal, WirePlace};
+/// let body = [0x01, 0xC3, 0x51, 0x02, 0x00, 0x01, 0xDE];
+/// let mut room = [0; quay::LONGEST_LINE];
+/// let listed = list_event(1, Event::Frame { wire: WirePlace(10), body: &body }, &mut room)?;
+/// assert_eq!(&room[..listed.length], b"1 weight gross 1 + 000251 1 0 0\n");
+/// assert_eq!(listed.entry, Entry::Weight);
+/// # Ok::<(), Refusal>(())
+/// ```
+pub fn list_event(number: u64, event: Event<'_>, room: &mut [u8]) -> Result<Listed, Refusal> {
+    let (event, body) = event.crossing();
+    let listed = raw::list_event(number, event, body, room);
+    judged(listed.refusal)?;
+    let entry = match listed.entry {
+        1 => Entry::Weight,
+        2 => Entry::Message,
+        3 => Entry::Refused,
+        entry => other_version("entry", entry),
+    };
+    Ok(Listed { length: listed.length, entry })
+}
+
+/// The last line of a listing: its length, or 9, and the room as it stood.
+///
+/// ```
+/// use quay::{list_total, Refusal, Total};
+/// let mut room = [0; quay::LONGEST_LINE];
+/// let length = list_total(Total { events: 3, weights: 2, refused: 1 }, &mut room)?;
+/// assert_eq!(&room[..length], b"total 3 weights 2 refused 1\n");
+/// # Ok::<(), Refusal>(())
+/// ```
+pub fn list_total(total: Total, room: &mut [u8]) -> Result<usize, Refusal> {
+    length_written(raw::list_total(total.events, total.weights, total.refused, room))
+}

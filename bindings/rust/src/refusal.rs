@@ -1,0 +1,109 @@
+//! The numbered refusals of the rules paper.
+use core::error::Error;
+use core::fmt;
+
+/// Why something was refused: one case for each number of the rules paper's list.
+#[derive(Clone, Copy, Debug, PartialEq, Eq, Hash, PartialOrd, Ord)]
+#[repr(u8)]
+pub enum Refusal {
+    /// 1: a body ended with under 3 bytes, or its first byte is 00 and it has under 6.
+    BodyShort = 1,
+    /// 2: a 256th body byte; in writing, a body that would pass 255.
+    BodyLong = 2,
+    /// 3: held, then neither FE nor FF.
+    HeldBroken = 3,
+    /// 4: the check is not 0.
+    CheckWrong = 4,
+    /// 5: the address is not 00 to 9F; in writing also a short address 0, or a serial above 16,777,215.
+    AddressIllegal = 5,
+    /// 6: the code is not in the table for that role.
+    CodeUnknown = 6,
+    /// 7: the data length is wrong for the code.
+    LengthWrong = 7,
+    /// 8: a field outside its values.
+    FieldOutside = 8,
+    /// 9: the lent room is shorter than needed.
+    RoomShort = 9,
+    /// 10: 1 to 19 bytes of a log are left over.
+    LogLeftOver = 10,
+    /// 11: a log record breaks a rule.
+    RecordBroken = 11,
+}
+
+const IN_ORDER: [Refusal; 11] = [
+    Refusal::BodyShort,
+    Refusal::BodyLong,
+    Refusal::HeldBroken,
+    Refusal::CheckWrong,
+    Refusal::AddressIllegal,
+    Refusal::CodeUnknown,
+    Refusal::LengthWrong,
+    Refusal::FieldOutside,
+    Refusal::RoomShort,
+    Refusal::LogLeftOver,
+    Refusal::RecordBroken,
+];
+
+impl Refusal {
+    /// The paper's number.
+    ///
+    /// ```
+    /// assert_eq!(quay::Refusal::CheckWrong.number(), 4);
+    /// ```
+    pub const fn number(self) -> u8 {
+        self as u8
+    }
+
+    /// The refusal that has a number, if one has it.
+    ///
+    /// ```
+    /// use quay::Refusal;
+    /// assert_eq!(Refusal::of_number(4), Some(Refusal::CheckWrong));
+    /// assert_eq!(Refusal::of_number(0), None);
+    /// assert_eq!(Refusal::of_number(12), None);
+    /// ```
+    pub fn of_number(number: u8) -> Option<Refusal> {
+        IN_ORDER.into_iter().find(|refusal| refusal.number() == number)
+    }
+
+    fn words(self) -> &'static str {
+        match self {
+            Refusal::BodyShort => "the body is too short",
+            Refusal::BodyLong => "the body passes 255 bytes",
+            Refusal::HeldBroken => "an FF inside a body is followed by neither FE nor FF",
+            Refusal::CheckWrong => "the check is wrong",
+            Refusal::AddressIllegal => "the address is outside its range",
+            Refusal::CodeUnknown => "the code is not in the table for that role",
+            Refusal::LengthWrong => "the data length is wrong for the code",
+            Refusal::FieldOutside => "a field is outside its values",
+            Refusal::RoomShort => "the lent room is shorter than needed",
+            Refusal::LogLeftOver => "bytes of the log are left over",
+            Refusal::RecordBroken => "a log record breaks a rule",
+        }
+    }
+}
+
+impl fmt::Display for Refusal {
+    fn fmt(&self, out: &mut fmt::Formatter<'_>) -> fmt::Result {
+        write!(out, "refused {}: {}", self.number(), self.words())
+    }
+}
+
+impl Error for Refusal {}
+
+/// What the field `refusal` of an answer says: 0 is none.
+pub(crate) fn judged(number: u8) -> Result<(), Refusal> {
+    if number == 0 {
+        return Ok(());
+    }
+    match Refusal::of_number(number) {
+        Some(why) => Err(why),
+        None => other_version("refusal", number),
+    }
+}
+
+/// The proved library never answers such a number. An archive that does is a later one, and going on would be guessing at a weight.
+#[cold]
+pub(crate) fn other_version(field: &str, number: u8) -> ! {
+    panic!("libquay.a answers {field} {number}, which this crate does not know: they are not of one version")
+}

@@ -1,0 +1,100 @@
+//! Weights: four bytes, and what they say.
+use crate::raw;
+use crate::refusal::{judged, Refusal};
+
+/// The four bytes of a weight as the wire and the log have them: W0 W1 W2 CON.
+///
+/// Any four bytes can be held; whether they are a weight is told by each use. There is no default: no bytes stand for a weight that
+/// was not heard.
+#[derive(Clone, Copy, Debug, PartialEq, Eq, Hash)]
+pub struct Weight(pub [u8; 4]);
+
+/// What a terminal shows.
+#[derive(Clone, Copy, Debug, PartialEq, Eq, Hash)]
+pub struct Reading {
+    /// The six digits, 0 to 999,999.
+    pub number: u32,
+    /// How many of them stand after the point, 0 to 7.
+    pub point: u8,
+    /// The sign bit: minus zero has it too.
+    pub minus: bool,
+    /// A bit on which the documents disagree.
+    pub bit6: bool,
+    /// A bit on which the documents disagree.
+    pub bit5: bool,
+    /// The load has come to rest.
+    pub settled: bool,
+    /// More lies on the bridge than it can weigh.
+    pub overload: bool,
+}
+
+impl Weight {
+    /// What the terminal shows, or 8.
+    ///
+    /// ```
+    /// use quay::{Refusal, Weight};
+    /// let reading = Weight([0x05, 0x00, 0x00, 0x91]).reading()?;
+    /// assert_eq!((reading.minus, reading.number, reading.point, reading.settled), (true, 5, 1, true));
+    /// assert_eq!(Weight([0x0A, 0x00, 0x00, 0x00]).reading(), Err(Refusal::FieldOutside));
+    /// # Ok::<(), Refusal>(())
+    /// ```
+    pub fn reading(self) -> Result<Reading, Refusal> {
+        let reading = raw::read_weight(self.crossing());
+        judged(reading.refusal)?;
+        Ok(Reading {
+            number: reading.number,
+            point: reading.point,
+            minus: reading.minus != 0,
+            bit6: reading.bit6 != 0,
+            bit5: reading.bit5 != 0,
+            settled: reading.settled != 0,
+            overload: reading.overload != 0,
+        })
+    }
+
+    /// The exact value in tenths of a milligram, or 8.
+    ///
+    /// ```
+    /// use quay::{Refusal, Weight};
+    /// assert_eq!(Weight([0x51, 0x02, 0x00, 0x01]).value(), Ok(251_000_000));
+    /// assert_eq!(Weight([0xFF; 4]).value(), Err(Refusal::FieldOutside));
+    /// ```
+    pub fn value(self) -> Result<i64, Refusal> {
+        tenths(raw::value(self.crossing()))
+    }
+
+    /// This weight as gross, less the net one, in tenths of a milligram, or 8. It may be negative.
+    ///
+    /// ```
+    /// use quay::Weight;
+    /// let gross = Weight([0x40, 0x84, 0x01, 0x10]);
+    /// let net = Weight([0x80, 0x42, 0x00, 0x10]);
+    /// assert_eq!(gross.difference(net), Ok(141_600_000_000)); // 18,440 kg less 4,280 kg
+    /// ```
+    pub fn difference(self, net: Weight) -> Result<i64, Refusal> {
+        tenths(raw::difference(self.crossing(), net.crossing()))
+    }
+
+    /// The weight in kilograms, rounded once, or 8.
+    ///
+    /// ```
+    /// use quay::{Refusal, Weight};
+    /// assert_eq!(Weight([0x51, 0x02, 0x00, 0x01]).kilograms(), Ok(25.1));
+    /// assert_eq!(Weight([0x00, 0x00, 0xA0, 0x00]).kilograms(), Err(Refusal::FieldOutside));
+    /// ```
+    pub fn kilograms(self) -> Result<f64, Refusal> {
+        let weighed = raw::kilograms(self.crossing());
+        judged(weighed.refusal)?;
+        Ok(weighed.kilograms)
+    }
+
+    fn crossing(self) -> raw::QuayWeight {
+        let [w0, w1, w2, con] = self.0;
+        raw::QuayWeight { w0, w1, w2, con }
+    }
+}
+
+fn tenths(value: raw::QuayValue) -> Result<i64, Refusal> {
+    judged(value.refusal)?;
+    Ok(value.value)
+}
