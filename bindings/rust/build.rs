@@ -24,8 +24,8 @@ fn archive_directory() -> Result<String, String> {
         let system = target("OS");
         return Err(format!("libquay.a is for 64-bit x86-64 Unix, and the target is {machine} {system}"));
     }
-    let directory = env::var("QUAY_ARCHIVE_DIR")
-        .map_err(|_| "QUAY_ARCHIVE_DIR does not name the directory of libquay.a".to_string())?;
+    let directory =
+        env::var("QUAY_ARCHIVE_DIR").map_err(|_| "QUAY_ARCHIVE_DIR does not name the directory of libquay.a".to_string())?;
     if !Path::new(&directory).join("libquay.a").is_file() {
         return Err(format!("there is no libquay.a in QUAY_ARCHIVE_DIR ({directory})"));
     }

@@ -46,9 +46,7 @@ mod writing;
 pub use addresses::{Address, Role};
 pub use line::{BodyPlace, Event, Events, Phase, Place, Reader, WirePlace, LONGEST_BODY};
 pub use listing::{list_event, list_total, Entry, Listed, Total, LONGEST_LINE};
-pub use log::{
-    read_record, record_heard, records, step, write_record, Broken, Noted, Record, Records, RECORD_LENGTH,
-};
+pub use log::{read_record, record_heard, records, step, write_record, Broken, Noted, Record, Records, RECORD_LENGTH};
 pub use messages::{read_message, Load, Message, Says};
 pub use refusal::Refusal;
 pub use weights::{Reading, Weight};

@@ -15,17 +15,19 @@ pub struct BodyPlace(pub usize);
 
 /// What a reader listens for.
 #[derive(Clone, Copy, Debug, PartialEq, Eq, Hash)]
-#[repr(u8)]
 pub enum Phase {
     /// For an FF; other bytes are dropped.
-    Seeking = 0,
+    Seeking,
     /// For the first byte of a body.
-    Delimited = 1,
+    Delimited,
     /// For the bytes of a body.
-    Inside = 2,
+    Inside,
     /// For what follows an FF inside a body.
-    Held = 3,
+    Held,
 }
+
+/// The phases by their numbers, from 0.
+const PHASES: [Phase; 4] = [Phase::Seeking, Phase::Delimited, Phase::Inside, Phase::Held];
 
 /// Where a reader stands.
 #[derive(Clone, Copy, Debug, PartialEq, Eq, Hash)]
@@ -123,13 +125,8 @@ impl Reader {
 
     /// Where it stands.
     pub fn place(&self) -> Place {
-        let phase = match self.place.phase {
-            0 => Phase::Seeking,
-            1 => Phase::Delimited,
-            2 => Phase::Inside,
-            3 => Phase::Held,
-            phase => other_version("phase", phase),
-        };
+        let number = self.place.phase;
+        let Some(&phase) = PHASES.get(usize::from(number)) else { other_version("phase", number) };
         Place { phase, wire: WirePlace(self.place.wire), kept: BodyPlace(self.place.kept) }
     }
 

@@ -9,14 +9,13 @@ pub const LONGEST_LINE: usize = 85;
 
 /// What was listed.
 #[derive(Clone, Copy, Debug, PartialEq, Eq, Hash)]
-#[repr(u8)]
 pub enum Entry {
     /// A weight.
-    Weight = 1,
+    Weight,
     /// Another message.
-    Message = 2,
+    Message,
     /// A refusal: not a weight.
-    Refused = 3,
+    Refused,
 }
 
 /// A line that was written.

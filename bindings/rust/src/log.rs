@@ -197,7 +197,7 @@ impl Iterator for Records<'_> {
 impl core::iter::FusedIterator for Records<'_> {}
 
 /// The record that an event makes, read in a role; none for a message that is no weight reply. What was refused on the line, or in
-/// its message, makes a record of the refusal.
+/// its message, makes a record of the refusal; a refusal above 8 is not met there and makes none.
 ///
 /// ```
 /// use quay::{record_heard, Event, Noted, Record, Refusal, Role, WirePlace};

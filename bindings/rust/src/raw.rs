@@ -148,32 +148,12 @@ laid_out!(QuayRecord, 24: time 0, serial 8, kind 12, address 13, status 14, w0 1
 laid_out!(QuayStepped, 32: item 0, next 24);
 laid_out!(QuayListed, 16: length 0, entry 8, refusal 9);
 
+// One line each, as a C header has them.
+#[rustfmt::skip]
 extern "C" {
-    fn quay_listen(
-        place: QuayPlace,
-        block: *const u8,
-        block_length: usize,
-        body: *mut [u8; 255],
-    ) -> QuayWent;
-    fn quay_write_frame(
-        short: u8,
-        serial: u32,
-        code: u8,
-        data: *const u8,
-        data_length: usize,
-        room: *mut u8,
-        room_length: usize,
-    ) -> QuayWritten;
-    fn quay_write_message(
-        role: u8,
-        short: u8,
-        serial: u32,
-        code: u8,
-        data: *const u8,
-        data_length: usize,
-        room: *mut u8,
-        room_length: usize,
-    ) -> QuayWritten;
+    fn quay_listen(place: QuayPlace, block: *const u8, block_length: usize, body: *mut [u8; 255]) -> QuayWent;
+    fn quay_write_frame(short: u8, serial: u32, code: u8, data: *const u8, data_length: usize, room: *mut u8, room_length: usize) -> QuayWritten;
+    fn quay_write_message(role: u8, short: u8, serial: u32, code: u8, data: *const u8, data_length: usize, room: *mut u8, room_length: usize) -> QuayWritten;
     fn quay_read_message(role: u8, body: *const u8, body_length: usize) -> QuayMessage;
     fn quay_read_weight(weight: QuayWeight) -> QuayReading;
     fn quay_value(weight: QuayWeight) -> QuayValue;
@@ -182,28 +162,9 @@ extern "C" {
     fn quay_write_record(item: QuayRecord, room: *mut u8, room_length: usize) -> QuayWritten;
     fn quay_read_record(bytes: *const u8, bytes_length: usize) -> QuayRecord;
     fn quay_step(log: *const u8, log_length: usize, place: usize) -> QuayStepped;
-    fn quay_record_heard(
-        time: u64,
-        role: u8,
-        event: QuayEvent,
-        body: *const u8,
-        body_length: usize,
-    ) -> QuayRecord;
-    fn quay_list_event(
-        number: u64,
-        event: QuayEvent,
-        body: *const u8,
-        body_length: usize,
-        room: *mut u8,
-        room_length: usize,
-    ) -> QuayListed;
-    fn quay_list_total(
-        total: u64,
-        weights: u64,
-        refused: u64,
-        room: *mut u8,
-        room_length: usize,
-    ) -> QuayWritten;
+    fn quay_record_heard(time: u64, role: u8, event: QuayEvent, body: *const u8, body_length: usize) -> QuayRecord;
+    fn quay_list_event(number: u64, event: QuayEvent, body: *const u8, body_length: usize, room: *mut u8, room_length: usize) -> QuayListed;
+    fn quay_list_total(total: u64, weights: u64, refused: u64, room: *mut u8, room_length: usize) -> QuayWritten;
 }
 
 pub fn listen(place: QuayPlace, block: &[u8], body: &mut [u8; 255]) -> QuayWent {
@@ -217,13 +178,7 @@ pub fn write_frame(short: u8, serial: u32, code: u8, data: &[u8], room: &mut [u8
     unsafe { quay_write_frame(short, serial, code, data.as_ptr(), data.len(), room_at, room_length) }
 }
 
-pub fn write_message(
-    role: u8,
-    (short, serial): (u8, u32),
-    code: u8,
-    data: &[u8],
-    room: &mut [u8],
-) -> QuayWritten {
+pub fn write_message(role: u8, (short, serial): (u8, u32), code: u8, data: &[u8], room: &mut [u8]) -> QuayWritten {
     let (data_at, data_length) = (data.as_ptr(), data.len());
     let (room_at, room_length) = (room.as_mut_ptr(), room.len());
     // SAFETY: both are borrowed with their own lengths, and nobody else holds the room.

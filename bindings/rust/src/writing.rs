@@ -33,13 +33,7 @@ pub fn write_frame(address: Address, code: u8, data: &[u8], room: &mut [u8]) -> 
 /// assert_eq!(write_message(Role::Reply, Address::Short(1), 0xC2, &[], &mut room), Err(Refusal::LengthWrong));
 /// # Ok::<(), Refusal>(())
 /// ```
-pub fn write_message(
-    role: Role,
-    address: Address,
-    code: u8,
-    data: &[u8],
-    room: &mut [u8],
-) -> Result<usize, Refusal> {
+pub fn write_message(role: Role, address: Address, code: u8, data: &[u8], room: &mut [u8]) -> Result<usize, Refusal> {
     length_written(raw::write_message(role as u8, address.crossing(), code, data, room))
 }
 

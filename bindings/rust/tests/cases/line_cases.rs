@@ -102,9 +102,7 @@ fn own_went(mut reader: Reader, block: &[u8]) -> (raw::QuayWent, [u8; 255]) {
     let event = match events.next() {
         None => raw::QuayEvent { wire: 0, kept: 0, kind: 0, refusal: 0 },
         Some(Event::Frame { wire, body }) => raw::QuayEvent { wire: wire.0, kept: body.len(), kind: 1, refusal: 0 },
-        Some(Event::Refused { why, wire, kept }) => {
-            raw::QuayEvent { wire: wire.0, kept: kept.0, kind: 2, refusal: why.number() }
-        }
+        Some(Event::Refused { why, wire, kept }) => raw::QuayEvent { wire: wire.0, kept: kept.0, kind: 2, refusal: why.number() },
     };
     let used = block.len() - events.rest().len();
     let place = reader.place();

@@ -8,15 +8,8 @@ use crate::words::{tell_written, Malformed, Telling, Words};
 use crate::Told;
 
 pub fn write_record(words: &mut Words<'_>) -> Result<Told, Malformed> {
-    let time = words.number("TIME")?;
-    let kind = words.number("KIND")?;
-    let address = words.number("ADDRESS")?;
-    let serial = words.number("SERIAL")?;
-    let status = words.number("STATUS")?;
-    let [w0, w1, w2] = words.array("W0W1W2")?;
-    let refusal = words.number("CARRIED")?;
+    let item = record_words(words)?;
     let room = words.bytes("ROOM")?;
-    let item = raw::QuayRecord { time, serial, kind, address, status, w0, w1, w2, refusal };
     let mut lent = room.clone();
     let written = raw::write_record(item, &mut lent);
     let crate_own = own_record(item).map(|record| {
@@ -25,6 +18,19 @@ pub fn write_record(words: &mut Words<'_>) -> Result<Told, Malformed> {
         tell_written(written, &lent)
     });
     Ok(Told { raw: tell_raw(written, &lent), crate_own })
+}
+
+/// TIME KIND ADDRESS SERIAL STATUS W0W1W2 CARRIED
+fn record_words(words: &mut Words<'_>) -> Result<raw::QuayRecord, Malformed> {
+    let mut item = no_record(0);
+    item.time = words.number("TIME")?;
+    item.kind = words.number("KIND")?;
+    item.address = words.number("ADDRESS")?;
+    item.serial = words.number("SERIAL")?;
+    item.status = words.number("STATUS")?;
+    [item.w0, item.w1, item.w2] = words.array("W0W1W2")?;
+    item.refusal = words.number("CARRIED")?;
+    Ok(item)
 }
 
 pub fn read_record(words: &mut Words<'_>) -> Result<Told, Malformed> {

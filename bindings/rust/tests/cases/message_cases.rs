@@ -5,12 +5,28 @@ use crate::raw;
 use crate::words::{tell_written, Malformed, Telling, Words};
 use crate::Told;
 
+/// What is to be written, and the room lent for it.
+struct Asked {
+    short: u8,
+    serial: u32,
+    code: u8,
+    data: Vec<u8>,
+    room: Vec<u8>,
+}
+
+/// SHORT SERIAL CODE DATA ROOM
+fn asked_words(words: &mut Words<'_>) -> Result<Asked, Malformed> {
+    Ok(Asked {
+        short: words.number("SHORT")?,
+        serial: words.number("SERIAL")?,
+        code: words.number("CODE")?,
+        data: words.bytes("DATA")?,
+        room: words.bytes("ROOM")?,
+    })
+}
+
 pub fn write_frame(words: &mut Words<'_>) -> Result<Told, Malformed> {
-    let short = words.number("SHORT")?;
-    let serial = words.number("SERIAL")?;
-    let code = words.number("CODE")?;
-    let data = words.bytes("DATA")?;
-    let room = words.bytes("ROOM")?;
+    let Asked { short, serial, code, data, room } = asked_words(words)?;
     let mut lent = room.clone();
     let written = raw::write_frame(short, serial, code, &data, &mut lent);
     let mut own_lent = room;
@@ -20,11 +36,7 @@ pub fn write_frame(words: &mut Words<'_>) -> Result<Told, Malformed> {
 
 pub fn write_message(words: &mut Words<'_>) -> Result<Told, Malformed> {
     let role = words.number("ROLE")?;
-    let short = words.number("SHORT")?;
-    let serial = words.number("SERIAL")?;
-    let code = words.number("CODE")?;
-    let data = words.bytes("DATA")?;
-    let room = words.bytes("ROOM")?;
+    let Asked { short, serial, code, data, room } = asked_words(words)?;
     let mut lent = room.clone();
     let written = raw::write_message(role, (short, serial), code, &data, &mut lent);
     let crate_own = role_of(role).map(|role| {
