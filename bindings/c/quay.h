@@ -249,8 +249,8 @@ QuayRecord quay_record_heard(uint64_t time, uint8_t role, QuayEvent event, const
 /* ---- the listing */
 
 /* Writes the line of an event, newline and all, as the event of that number; the line is read as replies. Where there was no event there is
- * no line: length 0, entry 0, no refusal. Of a frame, its body is the first event.kept of the lent bytes (all of them where they are fewer).
- * ITS CHECK IS NOT MADE AGAIN: lend what quay_listen left, with the event it gave, before the next call of quay_listen.
+ * no line: length 0, entry 0, no refusal. Of a frame, its body is the first event.kept of the lent bytes (all of them where they are fewer),
+ * and is judged again, check and all: other bytes than those that were heard list as the refusal they earn.
  * Refusals: 8 where the event's kind is none, or the number of its refusal (entry 0 then); 9 (entry as if it had fitted), in this order. */
 QuayListed quay_list_event(uint64_t number, QuayEvent event, const uint8_t *body, size_t body_length, uint8_t *room, size_t room_length);
 

@@ -19,7 +19,6 @@ import listing  # noqa: E402
 import log  # noqa: E402
 import message  # noqa: E402
 import weight  # noqa: E402
-from check_byte import check_of  # noqa: E402
 from refusals import ACCEPTED, FIELD_WRONG, RECORD_WRONG  # noqa: E402
 
 PHASES = ('seeking', 'delimited', 'inside', 'held')
@@ -218,19 +217,13 @@ def record_heard(time: int, role: int, kind: int, refusal: int, wire: int, kept:
 
 # ---- the listing
 
-def with_right_check(body: bytes) -> bytes:
-    return body[:-1] + bytes([check_of(body[:-1])])
-
-
 def list_event(number: int, kind: int, refusal: int, wire: int, kept: int, body: bytes, room: bytes) -> Answer:
-    """A frame's check is not made again: what a line hands out had a right one. So a body lists as it would with its check made right."""
+    """A frame's body is judged again, check and all: a caller may lend other bytes than those that were heard."""
     refused, event = event_given(kind, refusal, wire, kept, body)
     if refused != ACCEPTED:
         return (refused, 0, 0, room)
     if event is None:
         return (ACCEPTED, 0, 0, room)
-    if event.body:
-        event = event._replace(body=with_right_check(event.body))
     lent = bytearray(room)
     written = listing.write_line(number, event, lent)
     return written + (ENTRIES[listing.entry(event)[0]], bytes(lent))
