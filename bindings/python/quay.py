@@ -1,0 +1,36 @@
+"""The quay reader for Python: what a weighbridge terminal says on its line (the Tenso-M protocol), as numbers to trust.
+
+A weight that wasn't heard never looks like a weight of nothing: whatever the library refuses is raised as `Refused`, with the number
+of the rules paper's list, or is an event or a row of its own that has no weight.
+
+    reader = quay.Reader()
+    for event in reader.feed(port.read()):        # Frame or LineRefusal; any cut of blocks gives the same events
+        if isinstance(event, quay.Frame):
+            message = quay.read_message(event.body)
+
+    table = pandas.DataFrame(quay.rows(open('august.log', 'rb').read()))
+
+The library (libquay.so) is loaded when it is first used: the one named in the environment variable QUAY_LIBRARY, or else the one
+beside this module; `load_library(path)` takes another.
+
+>>> weight = Weight.from_bytes(bytes.fromhex('51020001'))
+>>> weight.value, weight.kilograms_exact, weight.kilograms
+(251000000, Fraction(251, 10), 25.1)
+"""
+from quay_library import LibraryNotLoaded, load_library
+from quay_line import Entry, Event, Frame, LineRefusal, Listed, Phase, Reader, list_event, list_total
+from quay_log import (Log, LogRefused, Record, RefusalMet, Row, Weighing, read_log, read_record, record_heard, row_of, rows,
+                      write_record)
+from quay_message import Address, Load, Message, Role, Says, read_message, write_frame, write_message
+from quay_refusal import MEANINGS, Refused, meaning_of
+from quay_weight import Reading, Weight, difference, exact_kilograms
+
+__all__ = [
+    'LibraryNotLoaded', 'load_library',
+    'MEANINGS', 'Refused', 'meaning_of',
+    'Entry', 'Event', 'Frame', 'LineRefusal', 'Listed', 'Phase', 'Reader', 'list_event', 'list_total',
+    'Address', 'Load', 'Message', 'Role', 'Says', 'read_message', 'write_frame', 'write_message',
+    'Reading', 'Weight', 'difference', 'exact_kilograms',
+    'Log', 'LogRefused', 'Record', 'RefusalMet', 'Row', 'Weighing', 'read_log', 'read_record', 'record_heard', 'row_of', 'rows',
+    'write_record',
+]

@@ -1,0 +1,215 @@
+"""The library itself: its structs and functions as ctypes sees them, and how it is found and loaded.
+
+Most programs want `quay` instead. Here every answer is the struct that the library gives, refused or not: where its field `refusal` is
+not 0, no other field of it says anything.
+"""
+from __future__ import annotations
+
+import ctypes
+import operator
+import os
+import platform
+from ctypes import c_double, c_int64, c_size_t, c_uint8, c_uint32, c_uint64, c_void_p
+from typing import Any, Dict, Optional, Tuple, Type, Union
+
+BODY_BYTES = 255
+LIBRARY_NAME = 'libquay.so'
+LIBRARY_VARIABLE = 'QUAY_LIBRARY'
+MACHINES = ('x86_64', 'AMD64')
+
+HIGHEST_BYTE = 2**8 - 1
+HIGHEST_COUNT = 2**64 - 1
+
+Bytes = Union[bytes, bytearray, memoryview]
+
+
+class QuayPlace(ctypes.Structure):
+    """Where a reader stands. All zeros are a fresh reader."""
+    _fields_ = [('wire', c_uint64), ('kept', c_size_t), ('phase', c_uint8)]
+
+
+class QuayEvent(ctypes.Structure):
+    """An event of the line: kind 0 nothing, 1 a frame, 2 a refusal."""
+    _fields_ = [('wire', c_uint64), ('kept', c_size_t), ('kind', c_uint8), ('refusal', c_uint8)]
+
+
+class QuayWent(ctypes.Structure):
+    """The next place, the first event, and how many bytes of the block were taken."""
+    _fields_ = [('place', QuayPlace), ('event', QuayEvent), ('used', c_size_t), ('refusal', c_uint8)]
+
+
+class QuayWritten(ctypes.Structure):
+    """What a write answers: its own length, or length 0 beside the refusal's number."""
+    _fields_ = [('length', c_size_t), ('refusal', c_uint8)]
+
+
+class QuayWeight(ctypes.Structure):
+    """The four bytes of a weight. Four times FF are no weight: every use is refused by 8."""
+    _fields_ = [('w0', c_uint8), ('w1', c_uint8), ('w2', c_uint8), ('con', c_uint8)]
+
+
+class QuayReading(ctypes.Structure):
+    """What a terminal shows. Refused, every other field is all ones."""
+    _fields_ = [('number', c_uint32), ('point', c_uint8), ('minus', c_uint8), ('bit6', c_uint8), ('bit5', c_uint8),
+                ('settled', c_uint8), ('overload', c_uint8), ('refusal', c_uint8)]
+
+
+class QuayValue(ctypes.Structure):
+    """A signed whole number of tenths of a milligram. Refused, the lowest number there is."""
+    _fields_ = [('value', c_int64), ('refusal', c_uint8)]
+
+
+class QuayKilograms(ctypes.Structure):
+    """A weight in kilograms. Refused, it is not a number."""
+    _fields_ = [('kilograms', c_double), ('refusal', c_uint8)]
+
+
+class QuayWhat(ctypes.Structure):
+    """What a message says. Fields that its kind does not have are 0, and its weight four times FF."""
+    _fields_ = [('number', c_uint64), ('from_', c_size_t), ('to', c_size_t), ('on', c_uint32), ('weight', QuayWeight),
+                ('load', c_uint8), ('says', c_uint8)]
+
+
+class QuayMessage(ctypes.Structure):
+    """A message, or the refusal its body earns. Short 0 says that the serial is the address."""
+    _fields_ = [('what', QuayWhat), ('from_', c_size_t), ('to', c_size_t), ('serial', c_uint32), ('short', c_uint8),
+                ('code', c_uint8), ('refusal', c_uint8)]
+
+
+class QuayRecord(ctypes.Structure):
+    """A record of a log. Kind 0 is no record: refused where `refusal` is not 0, and else there was none to tell."""
+    _fields_ = [('time', c_uint64), ('serial', c_uint32), ('kind', c_uint8), ('address', c_uint8), ('status', c_uint8),
+                ('w0', c_uint8), ('w1', c_uint8), ('w2', c_uint8), ('refusal', c_uint8)]
+
+
+class QuayStepped(ctypes.Structure):
+    """A record and the place behind it. Without a record the place is the one handed in."""
+    _fields_ = [('item', QuayRecord), ('next', c_size_t)]
+
+
+class QuayListed(ctypes.Structure):
+    """A line's length, and what was listed: 0 nothing, 1 a weight, 2 another message, 3 a refusal."""
+    _fields_ = [('length', c_size_t), ('entry', c_uint8), ('refusal', c_uint8)]
+
+
+# The size of each struct and where its fields stand, by the C rules of x86-64. A struct that is laid out otherwise here would let a
+# refusal be taken for a weight, so nothing is loaded then.
+LAYOUT: Dict[Type[ctypes.Structure], Tuple[int, Tuple[int, ...]]] = {
+    QuayPlace: (24, (0, 8, 16)),
+    QuayEvent: (24, (0, 8, 16, 17)),
+    QuayWent: (64, (0, 24, 48, 56)),
+    QuayWritten: (16, (0, 8)),
+    QuayWeight: (4, (0, 1, 2, 3)),
+    QuayReading: (12, (0, 4, 5, 6, 7, 8, 9, 10)),
+    QuayValue: (16, (0, 8)),
+    QuayKilograms: (16, (0, 8)),
+    QuayWhat: (40, (0, 8, 16, 24, 28, 32, 33)),
+    QuayMessage: (64, (0, 40, 48, 56, 60, 61, 62)),
+    QuayRecord: (24, (0, 8, 12, 13, 14, 15, 16, 17, 18)),
+    QuayStepped: (32, (0, 24)),
+    QuayListed: (16, (0, 8, 9)),
+}
+
+# A lent slice crosses as two arguments: where it begins, which is never null, and its length.
+LENT = [c_void_p, c_size_t]
+
+# Each function: what it answers, and its arguments.
+FUNCTIONS: Dict[str, Tuple[Type[ctypes.Structure], list]] = {
+    'quay_listen': (QuayWent, [QuayPlace, *LENT, c_void_p]),
+    'quay_write_frame': (QuayWritten, [c_uint8, c_uint32, c_uint8, *LENT, *LENT]),
+    'quay_write_message': (QuayWritten, [c_uint8, c_uint8, c_uint32, c_uint8, *LENT, *LENT]),
+    'quay_read_message': (QuayMessage, [c_uint8, *LENT]),
+    'quay_read_weight': (QuayReading, [QuayWeight]),
+    'quay_value': (QuayValue, [QuayWeight]),
+    'quay_difference': (QuayValue, [QuayWeight, QuayWeight]),
+    'quay_kilograms': (QuayKilograms, [QuayWeight]),
+    'quay_write_record': (QuayWritten, [QuayRecord, *LENT]),
+    'quay_read_record': (QuayRecord, [*LENT]),
+    'quay_step': (QuayStepped, [*LENT, c_size_t]),
+    'quay_record_heard': (QuayRecord, [c_uint64, c_uint8, QuayEvent, *LENT]),
+    'quay_list_event': (QuayListed, [c_uint64, QuayEvent, *LENT, *LENT]),
+    'quay_list_total': (QuayWritten, [c_uint64, c_uint64, c_uint64, *LENT]),
+}
+
+
+class LibraryNotLoaded(ImportError):
+    """The library could not be loaded; the text says where it was looked for, why it failed and what to do."""
+
+
+def check_layout() -> None:
+    """Compares the structs as ctypes lays them out with the numbers above."""
+    for struct, expected in LAYOUT.items():
+        offsets = tuple(getattr(struct, field[0]).offset for field in struct._fields_)
+        found = (ctypes.sizeof(struct), offsets)
+        if found != expected:
+            raise LibraryNotLoaded(
+                f'{struct.__name__} has (size, places of its fields) {found} here, and {expected} in the library. '
+                'It is built for 64-bit x86-64 Linux; use such a Python.')
+
+
+def _not_loaded(path: str, reason: object) -> LibraryNotLoaded:
+    text = (f'cannot load {path}: {reason}. Build {LIBRARY_NAME} (bindings/python/README.md says how) and put it beside quay.py, '
+            f'or name its path in the environment variable {LIBRARY_VARIABLE}, or call quay.load_library(path).')
+    if platform.machine() not in MACHINES:
+        text += f' The library is for x86-64, and this Python runs on {platform.machine()}: it needs an x86-64 Python.'
+    return LibraryNotLoaded(text)
+
+
+def _declare(loaded: ctypes.CDLL, path: str) -> None:
+    for name, (answer, arguments) in FUNCTIONS.items():
+        function = getattr(loaded, name, None)
+        if function is None:
+            raise _not_loaded(path, f'it has no function {name}, so it is not this version of the quay library')
+        function.restype = answer
+        function.argtypes = arguments
+
+
+_loaded: Optional[ctypes.CDLL] = None
+
+
+def load_library(path: Optional[Union[str, os.PathLike]] = None) -> ctypes.CDLL:
+    """Loads the library, and from then on every function here uses it.
+
+    Without a path it is the one named in QUAY_LIBRARY, and without that libquay.so beside this module.
+    """
+    global _loaded
+    beside = os.path.join(os.path.dirname(os.path.abspath(__file__)), LIBRARY_NAME)
+    chosen = os.path.abspath(os.fspath(path or os.environ.get(LIBRARY_VARIABLE) or beside))
+    try:
+        loaded = ctypes.CDLL(chosen)
+    except OSError as error:
+        raise _not_loaded(chosen, error) from error
+    _declare(loaded, chosen)
+    _loaded = loaded
+    return loaded
+
+
+def library() -> Any:
+    """The loaded library; it is loaded when it is first asked for."""
+    return _loaded if _loaded is not None else load_library()
+
+
+def address_of(data: bytes) -> int:
+    """Where bytes begin, to lend them from a place behind that. They must be held for as long as they are lent."""
+    address = ctypes.cast(ctypes.c_char_p(data), c_void_p).value
+    assert address, 'bytes always begin somewhere'
+    return address
+
+
+def as_bytes(data: Bytes) -> bytes:
+    """Bytes of anything that holds bytes. A number is not taken: `bytes(5)` would be five zeros that nobody heard."""
+    return data if isinstance(data, bytes) else bytes(memoryview(data))
+
+
+def whole_number(name: str, number: int, highest: int) -> int:
+    """A number that crosses as it stands. ctypes would cut off its high bits without a word, and 257 would become 1."""
+    try:
+        whole = operator.index(number)
+    except TypeError:
+        raise ValueError(f'{name}: {number!r} is not a whole number') from None
+    if not 0 <= whole <= highest:
+        raise ValueError(f'{name}: {whole} is not in 0 to {highest}')
+    return whole
+
+
+check_layout()

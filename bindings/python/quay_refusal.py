@@ -1,0 +1,53 @@
+"""Refusals: the numbers of the rules paper's list, and the exception that carries one."""
+from __future__ import annotations
+
+from typing import Any, Dict
+
+MEANINGS: Dict[int, str] = {
+    1: 'body ended with under 3 bytes, or first byte 00 and under 6',
+    2: '256th body byte (reading); body would pass 255 (writing)',
+    3: 'Held, then neither FE nor FF',
+    4: 'check not 0',
+    5: 'address not 00 to 9F; writing also: short address 0, serial above 16,777,215',
+    6: 'code not in the table for that role',
+    7: 'data length wrong for the code',
+    8: 'a field outside its values',
+    9: 'lent room shorter than needed',
+    10: 'log bytes left over, 1 to 19',
+    11: 'log record breaks a rule',
+}
+
+
+def meaning_of(number: int) -> str:
+    """What a refusal's number means, in the paper's words.
+
+    >>> meaning_of(4)
+    'check not 0'
+    """
+    return MEANINGS.get(number, 'a refusal that the paper does not list')
+
+
+class Refused(Exception):
+    """The library refused. `number` is the refusal's number, `meaning` what the paper says of it.
+
+    >>> str(Refused(8))
+    'refusal 8: a field outside its values'
+    """
+
+    def __init__(self, number: int) -> None:
+        super().__init__(number)
+        self.number = number
+
+    @property
+    def meaning(self) -> str:
+        return meaning_of(self.number)
+
+    def __str__(self) -> str:
+        return f'refusal {self.number}: {self.meaning}'
+
+
+def accepted(answer: Any) -> Any:
+    """A struct that the library answered, once it is known that it says something; else its refusal is raised."""
+    if answer.refusal:
+        raise Refused(answer.refusal)
+    return answer

@@ -1,0 +1,105 @@
+"""Weights: four bytes, what the terminal shows by them, and their exact value."""
+from __future__ import annotations
+
+from dataclasses import dataclass
+from fractions import Fraction
+
+from quay_library import HIGHEST_BYTE, Bytes, QuayWeight, as_bytes, library, whole_number
+from quay_refusal import accepted
+
+TENTHS_IN_A_KILOGRAM = 10_000_000
+WEIGHT_BYTES = 4
+
+
+@dataclass(frozen=True)
+class Reading:
+    """What a terminal shows: the sign bit, the number 0 to 999,999, the digits after the point, and the flags."""
+    number: int
+    point: int
+    minus: bool
+    bit6: bool
+    bit5: bool
+    settled: bool
+    overload: bool
+
+
+@dataclass(frozen=True)
+class Weight:
+    """The four bytes of a weight, W0 W1 W2 CON, as the wire and the log have them.
+
+    Whatever is asked of bytes that are no weight raises `Refused` with number 8: it is never 0 and never another number.
+
+    >>> weight = Weight.from_bytes(bytes.fromhex('51020001'))
+    >>> weight.value, weight.kilograms_exact, weight.kilograms
+    (251000000, Fraction(251, 10), 25.1)
+    >>> Weight.from_bytes(bytes.fromhex('ffffffff')).value
+    Traceback (most recent call last):
+    quay_refusal.Refused: refusal 8: a field outside its values
+    """
+    w0: int
+    w1: int
+    w2: int
+    con: int
+
+    def __post_init__(self) -> None:
+        for name in ('w0', 'w1', 'w2', 'con'):
+            whole_number(name, getattr(self, name), HIGHEST_BYTE)
+
+    @classmethod
+    def from_bytes(cls, four: Bytes) -> Weight:
+        """The weight of four bytes in the order of the wire."""
+        held = as_bytes(four)
+        if len(held) != WEIGHT_BYTES:
+            raise ValueError(f'a weight has {WEIGHT_BYTES} bytes, W0 W1 W2 CON, not {len(held)}')
+        return cls(*held)
+
+    def __bytes__(self) -> bytes:
+        return bytes((self.w0, self.w1, self.w2, self.con))
+
+    def crossing(self) -> QuayWeight:
+        """The four bytes as the library takes them."""
+        return QuayWeight.from_buffer_copy(bytes(self))
+
+    @property
+    def reading(self) -> Reading:
+        """What the terminal shows.
+
+        >>> Weight.from_bytes(bytes.fromhex('05000091')).reading
+        Reading(number=5, point=1, minus=True, bit6=False, bit5=False, settled=True, overload=False)
+        """
+        shown = accepted(library().quay_read_weight(self.crossing()))
+        flags = (bool(flag) for flag in (shown.minus, shown.bit6, shown.bit5, shown.settled, shown.overload))
+        return Reading(shown.number, shown.point, *flags)
+
+    @property
+    def value(self) -> int:
+        """A signed whole number of tenths of a milligram. Minus zero is 0 in value and keeps its sign bit in the reading."""
+        return accepted(library().quay_value(self.crossing())).value
+
+    @property
+    def kilograms_exact(self) -> Fraction:
+        """The weight in kilograms, exactly: the value over 10,000,000."""
+        return exact_kilograms(self.value)
+
+    @property
+    def kilograms(self) -> float:
+        """The weight in kilograms as a 64-bit float: the value over 10,000,000, rounded once; value 0 gives plus zero."""
+        return accepted(library().quay_kilograms(self.crossing())).kilograms
+
+
+def exact_kilograms(value: int) -> Fraction:
+    """Tenths of a milligram as kilograms, exactly.
+
+    >>> exact_kilograms(-5_000_000)
+    Fraction(-1, 2)
+    """
+    return Fraction(value, TENTHS_IN_A_KILOGRAM)
+
+
+def difference(gross: Weight, net: Weight) -> int:
+    """Gross less net in tenths of a milligram: a signed difference, which may be negative.
+
+    >>> difference(Weight(0x51, 0x02, 0, 0x01), Weight(0x05, 0, 0, 0x91))
+    256000000
+    """
+    return accepted(library().quay_difference(gross.crossing(), net.crossing())).value
