@@ -1,0 +1,10 @@
+"""Puts the binding's folder on the path, for the tests beside this file."""
+import os
+import sys
+
+HERE = os.path.dirname(os.path.abspath(__file__))
+ROOT = os.path.abspath(os.path.join(HERE, '..', '..', '..'))
+BINDING = os.path.join(ROOT, 'bindings', 'python')
+SAMPLES = os.path.join(ROOT, 'samples')
+
+sys.path[:0] = [BINDING, HERE]
