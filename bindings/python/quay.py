@@ -1,7 +1,7 @@
 """The quay reader for Python: what a weighbridge terminal says on its line (the Tenso-M protocol), as numbers to trust.
 
-A weight that wasn't heard never looks like a weight of nothing: whatever the library refuses is raised as `Refused`, with the number
-of the rules paper's list, or is an event or a row of its own that has no weight.
+A weight that wasn't heard never looks like a weight of nothing: whatever the library refuses is raised as `Refused`, with the
+number of the rules paper's list, or is an event or a row of its own that has no weight.
 
     reader = quay.Reader()
     for event in reader.feed(port.read()):        # Frame or LineRefusal; any cut of blocks gives the same events

@@ -1,7 +1,7 @@
 """The library itself: its structs and functions as ctypes sees them, and how it is found and loaded.
 
-Most programs want `quay` instead. Here every answer is the struct that the library gives, refused or not: where its field `refusal` is
-not 0, no other field of it says anything.
+Most programs want `quay` instead. Here every answer is the struct that the library gives, refused or not: where its field
+`refusal` is not 0, no other field of it says anything.
 """
 from __future__ import annotations
 
@@ -94,20 +94,21 @@ class QuayListed(ctypes.Structure):
 
 # The size of each struct and where its fields stand, by the C rules of x86-64. A struct that is laid out otherwise here would let a
 # refusal be taken for a weight, so nothing is loaded then.
-LAYOUT: Dict[Type[ctypes.Structure], Tuple[int, Tuple[int, ...]]] = {
-    QuayPlace: (24, (0, 8, 16)),
-    QuayEvent: (24, (0, 8, 16, 17)),
-    QuayWent: (64, (0, 24, 48, 56)),
-    QuayWritten: (16, (0, 8)),
-    QuayWeight: (4, (0, 1, 2, 3)),
-    QuayReading: (12, (0, 4, 5, 6, 7, 8, 9, 10)),
-    QuayValue: (16, (0, 8)),
-    QuayKilograms: (16, (0, 8)),
-    QuayWhat: (40, (0, 8, 16, 24, 28, 32, 33)),
-    QuayMessage: (64, (0, 40, 48, 56, 60, 61, 62)),
-    QuayRecord: (24, (0, 8, 12, 13, 14, 15, 16, 17, 18)),
-    QuayStepped: (32, (0, 24)),
-    QuayListed: (16, (0, 8, 9)),
+LAYOUT: Dict[Type[ctypes.Structure], Tuple[int, Dict[str, int]]] = {
+    QuayPlace: (24, {'wire': 0, 'kept': 8, 'phase': 16}),
+    QuayEvent: (24, {'wire': 0, 'kept': 8, 'kind': 16, 'refusal': 17}),
+    QuayWent: (64, {'place': 0, 'event': 24, 'used': 48, 'refusal': 56}),
+    QuayWritten: (16, {'length': 0, 'refusal': 8}),
+    QuayWeight: (4, {'w0': 0, 'w1': 1, 'w2': 2, 'con': 3}),
+    QuayReading: (12, {'number': 0, 'point': 4, 'minus': 5, 'bit6': 6, 'bit5': 7, 'settled': 8, 'overload': 9, 'refusal': 10}),
+    QuayValue: (16, {'value': 0, 'refusal': 8}),
+    QuayKilograms: (16, {'kilograms': 0, 'refusal': 8}),
+    QuayWhat: (40, {'number': 0, 'from_': 8, 'to': 16, 'on': 24, 'weight': 28, 'load': 32, 'says': 33}),
+    QuayMessage: (64, {'what': 0, 'from_': 40, 'to': 48, 'serial': 56, 'short': 60, 'code': 61, 'refusal': 62}),
+    QuayRecord: (24, {
+        'time': 0, 'serial': 8, 'kind': 12, 'address': 13, 'status': 14, 'w0': 15, 'w1': 16, 'w2': 17, 'refusal': 18}),
+    QuayStepped: (32, {'item': 0, 'next': 24}),
+    QuayListed: (16, {'length': 0, 'entry': 8, 'refusal': 9}),
 }
 
 # A lent slice crosses as two arguments: where it begins, which is never null, and its length.
@@ -139,7 +140,7 @@ class LibraryNotLoaded(ImportError):
 def check_layout() -> None:
     """Compares the structs as ctypes lays them out with the numbers above."""
     for struct, expected in LAYOUT.items():
-        offsets = tuple(getattr(struct, field[0]).offset for field in struct._fields_)
+        offsets = {field[0]: getattr(struct, field[0]).offset for field in struct._fields_}
         found = (ctypes.sizeof(struct), offsets)
         if found != expected:
             raise LibraryNotLoaded(
@@ -173,6 +174,7 @@ def load_library(path: Optional[Union[str, os.PathLike]] = None) -> ctypes.CDLL:
     Without a path it is the one named in QUAY_LIBRARY, and without that libquay.so beside this module.
     """
     global _loaded
+    check_layout()
     beside = os.path.join(os.path.dirname(os.path.abspath(__file__)), LIBRARY_NAME)
     chosen = os.path.abspath(os.fspath(path or os.environ.get(LIBRARY_VARIABLE) or beside))
     try:
@@ -210,6 +212,3 @@ def whole_number(name: str, number: int, highest: int) -> int:
     if not 0 <= whole <= highest:
         raise ValueError(f'{name}: {whole} is not in 0 to {highest}')
     return whole
-
-
-check_layout()

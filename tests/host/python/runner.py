@@ -2,9 +2,9 @@
 
     runner.py < CASES      QUAY_LIBRARY names the library
 
-One case a line, `function inputs = answer`: words separated by one blank, numbers decimal, bytes in lowercase hex, no bytes `-`. The
-whole answer is compared, also every byte of lent room. Prints at most ten differences, and last `N cases, M differ`. The exit status
-is 0 only where there were cases and none differs; a line that cannot be understood ends the run with 1.
+One case a line, `function inputs = answer`: words separated by one blank, numbers decimal, bytes in lowercase hex, no bytes `-`.
+The whole answer is compared, also every byte of lent room. Prints at most ten differences, and last `N cases, M differ`. The exit
+status is 0 only where there were cases and none differs; a line that cannot be understood ends the run with 1.
 """
 from __future__ import annotations
 

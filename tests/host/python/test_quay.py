@@ -1,4 +1,4 @@
-"""The friendly part of the Python binding: loading, the line, frames and messages, weights. (The log and the listing: test_log.py.)"""
+"""The friendly part of the Python binding: loading, the line, frames and messages, weights. (Log and listing: test_log.py.)"""
 from __future__ import annotations
 
 import doctest
@@ -49,10 +49,12 @@ class RefusedCase(unittest.TestCase):
 class Loading(unittest.TestCase):
     def test_a_struct_laid_out_otherwise_is_not_loaded(self) -> None:
         for struct, (size, offsets) in quay_library.LAYOUT.items():
-            for wrong in ((size + 8, offsets), (size, offsets[:-1] + (offsets[-1] + 1,))):
+            first, last = list(offsets)[0], list(offsets)[-1]
+            exchanged = {**offsets, first: offsets[last], last: offsets[first]}
+            for wrong in ((size + 8, offsets), (size, {**offsets, last: offsets[last] + 1}), (size, exchanged)):
                 with mock.patch.dict(quay_library.LAYOUT, {struct: wrong}):
                     with self.assertRaisesRegex(quay.LibraryNotLoaded, struct.__name__):
-                        quay_library.check_layout()
+                        quay.load_library()
 
     def test_every_function_and_struct_is_declared(self) -> None:
         self.assertEqual(len(quay_library.FUNCTIONS), 14)
