@@ -152,7 +152,7 @@ def read_log(log: Bytes) -> Log:
 
 def rows(log: Bytes) -> List[Row]:
     """The rows of a whole log, one for each record, as `pandas.DataFrame` takes them. A log that is not whole raises `LogRefused`,
-    which hands over the rows before it.
+    which hands over the rows before it. Add up with `sum(min_count=1)`: pandas' plain `sum()` of missing weights alone is 0.
 
     >>> rows(write_record(RefusalMet(1000, 4)))[0]['value'] is None
     True

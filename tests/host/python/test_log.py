@@ -106,7 +106,10 @@ class Rows(RefusedCase):
         import pandas
         table = pandas.DataFrame(quay.rows(LOG))
         self.assertEqual(list(table['value'].isna()), [False, True, False])
-        self.assertEqual(table['kilograms'].sum(), 25.1)
+        sums = table.groupby('kind')['kilograms'].sum(min_count=1)
+        self.assertEqual((sums['gross'], sums['net'], pandas.isna(sums['refusal'])), (25.1, 0, True))
+        unread = pandas.DataFrame(quay.rows(quay.write_record(UNREAD)))
+        self.assertTrue(pandas.isna(unread['kilograms'].sum(min_count=1)))
 
 
 class TheListing(RefusedCase):
