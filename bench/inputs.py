@@ -1,12 +1,9 @@
-#!/usr/bin/env python3
-"""Writes the wires that the reader is measured on, a megabyte each, into the folder named: what a byte costs in each state, and what a frame costs."""
-import os
-import sys
+"""What the works are measured on, a megabyte each: wires for the reader and the listing, bodies for the messages, records for the log."""
 
 SIZE = 1_000_000
 
 
-def register_of(data):
+def register_of(data: bytes) -> int:
     register = 0
     for byte in data:
         for place in range(7, -1, -1):
@@ -15,25 +12,59 @@ def register_of(data):
     return register
 
 
-def frame_of(front):
-    body = bytes(front) + bytes([register_of(bytes(front) + b"\0")])
-    return b"\xff" + body.replace(b"\xff", b"\xff\xfe") + b"\xff\xff"
+def body_of(front: bytes) -> bytes:
+    return front + bytes([register_of(front + b"\0")])
 
 
-def filled(piece):
+def frame_of(front: bytes) -> bytes:
+    return b"\xff" + body_of(front).replace(b"\xff", b"\xff\xfe") + b"\xff\xff"
+
+
+def record_of(time: int, words: str) -> bytes:
+    """A record's time, and the nine bytes behind it: kind, address, serial, status, three of weight."""
+    return time.to_bytes(8, "little") + bytes.fromhex(words) + bytes(3)
+
+
+def filled(piece: bytes) -> bytes:
     return piece * (SIZE // len(piece))
 
 
+GROSS = bytes.fromhex("01C351020001")  # E3
+
 WIRES = {
+    "frames of 10": filled(frame_of(GROSS)),
+    "frames of 257": filled(frame_of(b"\x01\xc3" + b"\x22" * 251)),
     "noise": b"\0" * SIZE,  # Seeking
     "delimiters": b"\xff" * SIZE,  # Delimited
     "long bodies": filled(b"\xff\x01" + b"\x22" * 254 + b"\xff\x02"),  # 255 kept bytes and refusal 3
     "stuffed bodies": filled(b"\xff\x01" + b"\xff\xfe" * 100 + b"\xff\x02"),
-    "frames of 10": filled(frame_of(bytes.fromhex("01C351020001"))),  # E3
-    "frames of 257": filled(frame_of(b"\x01\xc3" + b"\x22" * 251)),
 }
 
-if __name__ == "__main__":
-    for name, wire in WIRES.items():
-        with open(os.path.join(sys.argv[1], name), "wb") as out:
-            out.write(wire)
+# each of 7 bytes: what five codes say, a serial for an address, and refusals 4 to 8
+MIXED_BODIES = [
+    body_of(GROSS),
+    body_of(bytes.fromhex("02C29999999B")),
+    body_of(bytes.fromhex("03C4FF0081A5")),
+    body_of(bytes.fromhex("9FC510000080")),
+    body_of(bytes.fromhex("05C61F024F4B")),
+    body_of(bytes.fromhex("00651301BF20")),
+    body_of(GROSS)[:-1] + b"\0",
+    body_of(bytes.fromhex("A0C351020001")),
+    body_of(bytes.fromhex("017751020001")),
+    body_of(bytes.fromhex("01CC51020001")),
+    body_of(bytes.fromhex("01C30A020001")),
+]
+
+BODIES = {"gross weights": filled(body_of(GROSS)), "mixed bodies": filled(b"".join(MIXED_BODIES))}
+
+WEIGHINGS = [record_of(1_754_000_000 + second, "010100000010608401") for second in range(10)]
+
+MIXED_RECORDS = [
+    record_of(1_754_000_000, "010100000010608401"),
+    record_of(1_754_000_060, "020065130110804200"),
+    record_of(1_754_000_120, "030000000004000000"),
+    record_of(1_754_000_180, "01A000000010608401"),  # refusal 11: the address
+    record_of(1_754_000_240, "0101000000106A8401"),  # refusal 11: a digit
+]
+
+RECORDS = {"weighings": filled(b"".join(WEIGHINGS)), "mixed records": filled(b"".join(MIXED_RECORDS))}

@@ -1,94 +1,109 @@
-// Counts what is heard on a capture: standard input is fed to a fresh reader in blocks, and the frames and refusals are told at its end.
-// It is what the reader's cost is measured with (bench/).
+// What the proved layers cost is measured with this program (bench/run): standard input is taken through one of them in blocks, and counts
+// and a sum are told at its end. The same work in C tells the same counts and the same sum.
+//
+// The argument names the work: check, byte, block (also without an argument), message, record.
+mod bodies;
+mod hearing;
+mod records;
+mod tally;
+
+use check_byte::feed_all;
 use libc::STDIN_FILENO;
 use libc::STDOUT_FILENO;
-use line::Event;
-use line::Reader;
+use tally::Counts;
+use tally::Tally;
+use tally::with_counts;
 
-struct Tally {
-    reader: Reader,
-    frames: u64,
-    refused: u64,
-    more: bool,
+enum Work {
+    Check,
+    Byte,
+    Block,
+    Message,
+    Record,
+    Unknown,
 }
 
-fn is_frame(event: Event) -> bool {
-    match event {
-        Event::Frame(_, _) => true,
-        Event::Nothing => false,
-        Event::Refused(_, _, _) => false,
+// A work by its first letters, which differ.
+fn work_of(first: u8, second: u8) -> Work {
+    match first {
+        b'c' => Work::Check,
+        b'm' => Work::Message,
+        b'r' => Work::Record,
+        b'b' => match second {
+            b'y' => Work::Byte,
+            b'l' => Work::Block,
+            _ => Work::Unknown,
+        },
+        _ => Work::Unknown,
     }
 }
 
-fn is_refused(event: Event) -> bool {
-    match event {
-        Event::Refused(_, _, _) => true,
-        Event::Nothing => false,
-        Event::Frame(_, _) => false,
+// The register is handed on in the sum.
+fn check(counts: Counts, block: &[u8]) -> Counts {
+    let mut next = counts;
+    let register = (counts.sum % 256) as u8;
+    next.sum = feed_all(register, block) as u64;
+    next
+}
+
+// One block through the work. The page is the room that records are written into; it is as long as a block.
+fn measure(work: Work, tally: Tally, block: &[u8], page: &mut [u8]) -> Tally {
+    let counts = tally.counts;
+    match work {
+        Work::Check => with_counts(tally, check(counts, block)),
+        Work::Byte => hearing::take_bytes(tally, block),
+        Work::Block => hearing::listen(tally, block),
+        Work::Message => with_counts(tally, bodies::read_bodies(counts, block)),
+        Work::Record => with_counts(tally, records::write_records(counts, block, page)),
+        Work::Unknown => tally,
     }
 }
 
-// A block to its end, event by event, the reader taken apart once.
-fn hear(tally: Tally, block: &[u8]) -> Tally {
-    let mut reader = tally.reader;
-    let mut place = reader.place;
-    let mut frames = tally.frames;
-    let mut refused = tally.refused;
-    let mut at = 0;
-    while at < block.len() {
-        let went = place.listen(&block[at..], &mut reader.body);
-        let next = went.place;
-        place = next;
-        let event = went.event;
-        at += went.used;
-        if is_frame(event) {
-            frames = std::num::wrapping_add_u64(frames, 1);
-        }
-        if is_refused(event) {
-            refused = std::num::wrapping_add_u64(refused, 1);
-        }
-    }
-    reader.place = place;
-    Tally {
-        reader,
-        frames,
-        refused,
-        more: true,
-    }
-}
-
-// One read of standard input, heard to its end. No more follows where the input ended or could not be read.
-fn hear_some(tally: Tally) -> Tally {
-    let mut buffer = io::buffer();
-    let got = libc::read(STDIN_FILENO, &mut buffer);
-    let count = io::count(got, &buffer);
-    if count == 0 {
-        let mut last = tally;
-        last.more = false;
-        return last;
-    }
-    hear(tally, &buffer[..count])
-}
-
-fn main() {
-    let mut tally = Tally {
-        reader: Reader::new(),
-        frames: 0,
-        refused: 0,
-        more: true,
-    };
+// Standard input to its end, as much at a time as a block holds. A proved loop has to end, and nothing says that an input does: its turns
+// are counted down from a number that no run uses up.
+fn measure_all(work: Work, block: &mut [u8], page: &mut [u8]) -> Counts {
+    let mut tally = tally::fresh();
     let mut turns = u64::MAX;
     while turns > 0 {
         turns -= 1;
-        let next = hear_some(tally);
-        tally = next;
-        if !tally.more {
+        let count = io::read_full(STDIN_FILENO, block);
+        if count == 0 {
             turns = 0;
+        } else {
+            let next = measure(work, tally, &block[..count], page);
+            tally = next;
         }
     }
-    io::write_all(STDOUT_FILENO, b"frames ");
-    io::print_decimal(STDOUT_FILENO, tally.frames);
+    tally.counts
+}
+
+fn run(work: Work) {
+    let mut block = [0u8; tally::BLOCK];
+    let mut page = [0u8; tally::BLOCK];
+    let counts = measure_all(work, &mut block, &mut page);
+    io::write_all(STDOUT_FILENO, b"good ");
+    io::print_decimal(STDOUT_FILENO, counts.good);
     io::write_all(STDOUT_FILENO, b" refused ");
-    io::print_decimal(STDOUT_FILENO, tally.refused);
+    io::print_decimal(STDOUT_FILENO, counts.refused);
+    io::write_all(STDOUT_FILENO, b" sum ");
+    io::print_decimal(STDOUT_FILENO, counts.sum);
     io::write_all(STDOUT_FILENO, b"\n");
+}
+
+fn main() {
+    if os::arg_count() < 2 {
+        run(Work::Block);
+        return;
+    }
+    let mut word = io::buffer();
+    os::arg(1, &mut word);
+    let work = work_of(word[0], word[1]);
+    if let Work::Unknown = work {
+        io::write_all(
+            libc::STDERR_FILENO,
+            b"meter: the work is one of check, byte, block, message, record\n",
+        );
+        return;
+    }
+    run(work);
 }

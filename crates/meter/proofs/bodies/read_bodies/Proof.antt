@@ -1,0 +1,68 @@
+-- `meter::read_bodies` is safe and ends: each turn leaves a body behind, inside the block.
+use Prim.Native.Nat.{_≤_, _-_}
+use native.Mathlib.Omega.{arith}
+use borrow.Author.Needs.{needs}
+use lib.ListN.{length}
+use Rattle.meter.proofs.bodies.read_bodies.Statement.{statement}
+use Rattle.meter.proofs.bodies.read_bodies.Tie as tie
+use Rattle.meter.proofs.bodies.read_bodies.Reads as reads
+use Rattle.meter.proofs.bodies.read_bodies.Lts as lts
+use Rattle.message.proofs.read.Reads as read-reads
+use Rattle.meter.proofs.bodies.counted.Reads as counted-reads
+
+abbrev Inv-loop : tie.InvT-loop
+Inv-loop block counts₀ at₀ counts at = at ≤ length block
+
+abbrev μ-loop : tie.MeasureT-loop
+μ-loop block counts₀ at₀ counts at = length block - at
+
+loop-holds : tie.Need-loop-holds Inv-loop μ-loop
+loop-holds c = search needs
+
+sub-loop : tie.Need-sub-loop Inv-loop μ-loop
+sub-loop c = omega arith
+
+add-end : tie.Need-add-end Inv-loop μ-loop
+add-end c = omega arith
+
+sub-read : tie.Need-sub-read Inv-loop μ-loop
+sub-read c = omega arith
+
+part-read-start : tie.Need-part-read-start Inv-loop μ-loop
+part-read-start c = omega arith
+
+part-read-end : tie.Need-part-read-end Inv-loop μ-loop
+part-read-end c = omega arith
+
+read-requires : tie.Need-read-requires Inv-loop μ-loop
+read-requires c κs = tt
+
+counted-requires : tie.Need-counted-requires Inv-loop μ-loop
+counted-requires c κs = tt
+
+loop-less : tie.Need-loop-less Inv-loop μ-loop
+loop-less c = omega arith
+
+loop-again : tie.Need-loop-again Inv-loop μ-loop
+loop-again c = search needs
+
+returns : tie.Need-returns Inv-loop μ-loop
+returns c = search needs
+
+pub read-bodies-spec : {M : Type 1} → statement M
+read-bodies-spec =
+    tie.close
+    (tie.spec
+    Inv-loop
+    μ-loop
+    loop-holds
+    sub-loop
+    add-end
+    sub-read
+    part-read-start
+    part-read-end
+    read-requires
+    counted-requires
+    loop-less
+    loop-again
+    returns)

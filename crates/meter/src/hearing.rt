@@ -1,0 +1,56 @@
+// Listening, byte by byte and block by block. Of each event both places go into the sum, and the number of a refusal.
+use crate::tally::Counts;
+use crate::tally::Tally;
+use crate::tally::good;
+use crate::tally::refused;
+use line::Event;
+use refusal::number;
+use std::num::wrapping_add_u64;
+
+fn counted(counts: Counts, event: Event) -> Counts {
+    match event {
+        Event::Nothing => counts,
+        Event::Frame(wire, kept) => {
+            let places = wrapping_add_u64(wire.0, kept.0 as u64);
+            good(counts, places)
+        }
+        Event::Refused(why, wire, kept) => {
+            let places = wrapping_add_u64(wire.0, kept.0 as u64);
+            refused(counts, wrapping_add_u64(places, number(why) as u64))
+        }
+    }
+}
+
+// A block to its end, the reader handed in and out by value with each byte.
+pub fn take_bytes(tally: Tally, block: &[u8]) -> Tally {
+    let mut counts = tally.counts;
+    let mut reader = tally.reader;
+    let mut at = 0;
+    while at < block.len() {
+        let taken = reader.take(block[at]);
+        let next = taken.reader;
+        reader = next;
+        let event = taken.event;
+        counts = counted(counts, event);
+        at += 1;
+    }
+    Tally { reader, counts }
+}
+
+// A block to its end, event by event, the reader taken apart once.
+pub fn listen(tally: Tally, block: &[u8]) -> Tally {
+    let mut counts = tally.counts;
+    let mut reader = tally.reader;
+    let mut place = reader.place;
+    let mut at = 0;
+    while at < block.len() {
+        let went = place.listen(&block[at..], &mut reader.body);
+        let next = went.place;
+        place = next;
+        let event = went.event;
+        at += went.used;
+        counts = counted(counts, event);
+    }
+    reader.place = place;
+    Tally { reader, counts }
+}
