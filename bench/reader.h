@@ -14,9 +14,8 @@ struct reader {
 
 static int feed(int reg, int byte) {
     for (int bit = 7; bit >= 0; bit--) {
-        int out = reg & 0x80;
-        reg = (reg << 1 & 0xFF) | (byte >> bit & 1);
-        if (out) reg ^= 0x69;
+        reg = reg << 1 | (byte >> bit & 1);
+        if (reg & 0x100) reg ^= 0x169;
     }
     return reg;
 }
