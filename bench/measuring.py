@@ -9,8 +9,8 @@ from pathlib import Path
 HERE = Path(__file__).resolve().parent
 REPOSITORY = HERE.parent
 IS_X86 = platform.machine() == "x86_64"
-TIMED_BYTES = 32_000_000
-RUNS = 7
+TIMED_BYTES = 16_000_000
+RUNS = 5
 
 
 def needed(program: str, package: str) -> str:

@@ -19,11 +19,11 @@ fn marked(mark: bool, place: u64) -> u64 {
 }
 
 fn sum_of_reading(reading: Reading) -> u64 {
-    let shown = wrapping_add_u64(reading.number as u64, reading.point as u64);
-    let signs = wrapping_add_u64(marked(reading.minus, 128), marked(reading.settled, 16));
-    let plain = wrapping_add_u64(marked(reading.bit6, 64), marked(reading.bit5, 32));
-    let marks = wrapping_add_u64(wrapping_add_u64(signs, plain), marked(reading.overload, 8));
-    wrapping_add_u64(shown, marks)
+    let signs = marked(reading.minus, 128)
+        | marked(reading.settled, 16)
+        | marked(reading.overload, 8);
+    let marks = signs | marked(reading.bit6, 64) | marked(reading.bit5, 32);
+    wrapping_add_u64(reading.number as u64, marks | reading.point as u64)
 }
 
 fn sum_of_part(number: u8, from: usize, to: usize) -> u64 {

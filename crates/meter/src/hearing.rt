@@ -3,20 +3,23 @@ use crate::tally::Counts;
 use crate::tally::Tally;
 use crate::tally::good;
 use crate::tally::refused;
+use line::BodyPlace;
 use line::Event;
+use line::WirePlace;
 use refusal::number;
 use std::num::wrapping_add_u64;
+
+fn places(wire: WirePlace, kept: BodyPlace) -> u64 {
+    wrapping_add_u64(wire.0, kept.0 as u64)
+}
 
 fn counted(counts: Counts, event: Event) -> Counts {
     match event {
         Event::Nothing => counts,
-        Event::Frame(wire, kept) => {
-            let places = wrapping_add_u64(wire.0, kept.0 as u64);
-            good(counts, places)
-        }
+        Event::Frame(wire, kept) => good(counts, places(wire, kept)),
         Event::Refused(why, wire, kept) => {
-            let places = wrapping_add_u64(wire.0, kept.0 as u64);
-            refused(counts, wrapping_add_u64(places, number(why) as u64))
+            let sum = wrapping_add_u64(places(wire, kept), number(why) as u64);
+            refused(counts, sum)
         }
     }
 }

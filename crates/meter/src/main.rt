@@ -46,16 +46,22 @@ fn check(counts: Counts, block: &[u8]) -> Counts {
     next
 }
 
-// One block through the work. The page is the room that records are written into; it is as long as a block.
-fn measure(work: Work, tally: Tally, block: &[u8], page: &mut [u8]) -> Tally {
-    let counts = tally.counts;
+// One block through a work that keeps no reader. The page is the room that records are written into; it is as long as a block.
+fn measure_pieces(work: Work, counts: Counts, block: &[u8], page: &mut [u8]) -> Counts {
     match work {
-        Work::Check => with_counts(tally, check(counts, block)),
+        Work::Check => check(counts, block),
+        Work::Message => bodies::read_bodies(counts, block),
+        Work::Record => records::write_records(counts, block, page),
+        _ => counts,
+    }
+}
+
+// One block through the work.
+fn measure(work: Work, tally: Tally, block: &[u8], page: &mut [u8]) -> Tally {
+    match work {
         Work::Byte => hearing::take_bytes(tally, block),
         Work::Block => hearing::listen(tally, block),
-        Work::Message => with_counts(tally, bodies::read_bodies(counts, block)),
-        Work::Record => with_counts(tally, records::write_records(counts, block, page)),
-        Work::Unknown => tally,
+        _ => with_counts(tally, measure_pieces(work, tally.counts, block, page)),
     }
 }
 
@@ -77,16 +83,18 @@ fn measure_all(work: Work, block: &mut [u8], page: &mut [u8]) -> Counts {
     tally.counts
 }
 
+fn tell(word: &[u8], number: u64) {
+    io::write_all(STDOUT_FILENO, word);
+    io::print_decimal(STDOUT_FILENO, number);
+}
+
 fn run(work: Work) {
     let mut block = [0u8; tally::BLOCK];
     let mut page = [0u8; tally::BLOCK];
     let counts = measure_all(work, &mut block, &mut page);
-    io::write_all(STDOUT_FILENO, b"good ");
-    io::print_decimal(STDOUT_FILENO, counts.good);
-    io::write_all(STDOUT_FILENO, b" refused ");
-    io::print_decimal(STDOUT_FILENO, counts.refused);
-    io::write_all(STDOUT_FILENO, b" sum ");
-    io::print_decimal(STDOUT_FILENO, counts.sum);
+    tell(b"good ", counts.good);
+    tell(b" refused ", counts.refused);
+    tell(b" sum ", counts.sum);
     io::write_all(STDOUT_FILENO, b"\n");
 }
 

@@ -6,11 +6,6 @@ use borrow.Author.Needs.{needs}
 use lib.ListN.{length}
 use Rattle.meter.proofs.measure_all.Statement.{statement}
 use Rattle.meter.proofs.measure_all.Tie as tie
-use Rattle.meter.proofs.measure_all.Reads as reads
-use Rattle.meter.proofs.measure_all.Lts as lts
-use Rattle.io.proofs.read_full.Reads as read-full-reads
-use Rattle.meter.proofs.measure.Reads as measure-reads
-use Rattle.meter.proofs.tally.fresh.Reads as fresh-reads
 
 abbrev Inv-loop : tie.InvT-loop
 Inv-loop work block₀ page₀ tally₀ turns₀ block page tally turns = (length block ≡ length block₀) × (length page ≡ length page₀)

@@ -5,10 +5,6 @@ use borrow.Author.Needs.{needs}
 use lib.ListN.{length}
 use Rattle.meter.proofs.bodies.read_bodies.Statement.{statement}
 use Rattle.meter.proofs.bodies.read_bodies.Tie as tie
-use Rattle.meter.proofs.bodies.read_bodies.Reads as reads
-use Rattle.meter.proofs.bodies.read_bodies.Lts as lts
-use Rattle.message.proofs.read.Reads as read-reads
-use Rattle.meter.proofs.bodies.counted.Reads as counted-reads
 
 abbrev Inv-loop : tie.InvT-loop
 Inv-loop block counts₀ at₀ counts at = at ≤ length block

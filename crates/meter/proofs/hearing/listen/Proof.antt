@@ -7,10 +7,6 @@ use borrow.Author.Needs.{needs}
 use lib.ListN.{length, length-take, length-drop}
 use Rattle.meter.proofs.hearing.listen.Statement.{statement}
 use Rattle.meter.proofs.hearing.listen.Tie as tie
-use Rattle.meter.proofs.hearing.listen.Reads as reads
-use Rattle.meter.proofs.hearing.listen.Lts as lts
-use Rattle.line.proofs.places.Place.listen.Reads as listen-reads
-use Rattle.meter.proofs.hearing.counted.Reads as counted-reads
 
 abbrev Inv-loop : tie.InvT-loop
 Inv-loop block counts₀ reader₀ place₀ at₀ counts reader place at = (at ≤ length block) × (length (reader .body) ≡ 255)

@@ -5,10 +5,6 @@ use borrow.Author.Needs.{needs}
 use lib.ListN.{length}
 use Rattle.meter.proofs.hearing.take_bytes.Statement.{statement}
 use Rattle.meter.proofs.hearing.take_bytes.Tie as tie
-use Rattle.meter.proofs.hearing.take_bytes.Reads as reads
-use Rattle.meter.proofs.hearing.take_bytes.Lts as lts
-use Rattle.line.proofs.reading.Reader.take.Reads as take-reads
-use Rattle.meter.proofs.hearing.counted.Reads as counted-reads
 
 abbrev Inv-loop : tie.InvT-loop
 Inv-loop block counts₀ reader₀ at₀ counts reader at = at ≤ length block

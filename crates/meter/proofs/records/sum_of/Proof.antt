@@ -5,10 +5,6 @@ use borrow.Author.Needs.{needs}
 use lib.ListN.{length}
 use Rattle.meter.proofs.records.sum_of.Statement.{statement}
 use Rattle.meter.proofs.records.sum_of.Tie as tie
-use Rattle.meter.proofs.records.sum_of.Reads as reads
-use Rattle.meter.proofs.records.sum_of.Lts as lts
-use Rattle.meter.proofs.records.wide.Reads as wide-reads
-use Rattle.std.proofs.num.wrapping_add_u64.Reads as wrapping-add-u64-reads
 
 abbrev Inv-loop : tie.InvT-loop
 Inv-loop page sum₀ at₀ sum at = (at ≤ length page)

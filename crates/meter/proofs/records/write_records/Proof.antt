@@ -6,14 +6,6 @@ use borrow.Author.Needs.{needs}
 use lib.ListN.{length}
 use Rattle.meter.proofs.records.write_records.Statement.{statement}
 use Rattle.meter.proofs.records.write_records.Tie as tie
-use Rattle.meter.proofs.records.write_records.Reads as reads
-use Rattle.meter.proofs.records.write_records.Lts as lts
-use Rattle.meter.proofs.records.counted.Reads as counted-reads
-use Rattle.meter.proofs.records.least.Reads as least-reads
-use Rattle.meter.proofs.records.record_in.Reads as record-in-reads
-use Rattle.meter.proofs.records.sum_of.Reads as sum-of-reads
-use Rattle.std.proofs.num.wrapping_add_u64.Reads as wrapping-add-u64-reads
-use Rattle.weighing_log.proofs.write_record.Reads as write-record-reads
 
 abbrev Inv-loop : tie.InvT-loop
 Inv-loop block page₀ counts₀ most at₀ page counts at = (at ≤ most) × (length page ≡ length page₀)
