@@ -23,7 +23,7 @@ enum Work {
     Unknown,
 }
 
-// A work by its first letters, which differ.
+// A work by its first letters, which differ. The rest of the word is not looked at.
 fn work_of(first: u8, second: u8) -> Work {
     match first {
         b'c' => Work::Check,
