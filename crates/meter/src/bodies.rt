@@ -2,10 +2,10 @@
 use crate::tally::Counts;
 use crate::tally::good;
 use crate::tally::refused;
-use frame::Address;
+use body::Address;
+use codes::Role;
 use message::Message;
 use message::Received;
-use message::Role;
 use message::What;
 use message::read;
 use refusal::number;

@@ -4,7 +4,7 @@
 // The argument names the work: check, byte, block (also without an argument), message, record.
 mod bodies;
 mod hearing;
-mod records;
+mod logs;
 mod tally;
 
 use check_byte::feed_all;
@@ -51,7 +51,7 @@ fn measure_pieces(work: Work, counts: Counts, block: &[u8], page: &mut [u8]) -> 
     match work {
         Work::Check => check(counts, block),
         Work::Message => bodies::read_bodies(counts, block),
-        Work::Record => records::write_records(counts, block, page),
+        Work::Record => logs::write_records(counts, block, page),
         _ => counts,
     }
 }

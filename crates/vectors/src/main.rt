@@ -7,8 +7,8 @@ mod frames;
 mod given;
 mod lines;
 mod listings;
+mod logs;
 mod messages;
-mod records;
 mod weights;
 mod words;
 
@@ -43,9 +43,9 @@ fn tell(function: u8, text: &[u8]) {
         17 => weights::kilograms(),
         18 => weights::inputs_on(),
         19 => messages::read(text),
-        20 => records::read(text),
-        21 => records::heard(text),
-        _ => records::step(text),
+        20 => logs::read(text),
+        21 => logs::heard(text),
+        _ => logs::step(text),
     }
 }
 
@@ -54,7 +54,7 @@ fn write(function: u8, text: &[u8], room: &mut [u8]) -> Written {
     match function {
         23 => frames::write(text, room),
         24 => messages::write(text, room),
-        25 => records::write(room),
+        25 => logs::write(room),
         26 => listings::write_line(text, room),
         _ => listings::write_total(room),
     }

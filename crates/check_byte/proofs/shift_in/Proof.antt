@@ -1,33 +1,23 @@
--- `check_byte::shift_in` meets its contract: the two branches are the two cases of `shiftIn`.
--- Why: the test on the register is the test of the definition.
+-- `check_byte::shift_in` meets its contract: a bit enters, and the one that falls out folds in 69h.
+-- Why: with a ninth place the fold is the definition's.
+use Rattle.check_byte.proofs.Ninth.{stays, folds, eight}
 use borrow.Author.Needs.{needs}
-use borrow.Author.Tests.{lt-ltb, le-ltb}
-use Rattle.check_byte.specs.Register.{shiftIn}
 use Rattle.check_byte.proofs.shift_in.Statement.{statement}
 use Rattle.check_byte.proofs.shift_in.Tie as tie
 use Rattle.check_byte.proofs.shift_in.Reads as reads
 use Rattle.check_byte.proofs.shift_in.Lts as lts
 
-mul-result : tie.Need-mul-result
-mul-result c = search needs
+mul-shifted : tie.Need-mul-shifted
+mul-shifted c = search needs
 
-add-result : tie.Need-add-result
-add-result c = search needs
-
-mul-result-2 : tie.Need-mul-result-2
-mul-result-2 c = search needs
-
-add-result-2 : tie.Need-add-result-2
-add-result-2 c = search needs
+add-shifted : tie.Need-add-shifted
+add-shifted c = search needs
 
 returns : tie.Need-returns
-unfolding shiftIn
-returns c = simp (lt-ltb _ _ (c .if1 .taken))
+returns c = (stays _ _ (c .if1 .taken), c .if1 .taken)
 
 returns-2 : tie.Need-returns-2
-unfolding shiftIn
-returns-2 c = simp (le-ltb _ _ (c .if1 .left))
+returns-2 c = let start = c .before in (folds _ _ (start .pre .0) (start .pre .1) (c .if1 .left), eight _ _ (start .pre .0) (start .pre .1) (c .if1 .left))
 
 pub shift-in-spec : {M : Type 1} → statement M
-shift-in-spec =
-    tie.close (tie.spec mul-result add-result mul-result-2 add-result-2 returns returns-2)
+shift-in-spec = tie.close (tie.spec mul-shifted add-shifted returns returns-2)

@@ -2,12 +2,12 @@
 use crate::tally::Counts;
 use crate::tally::good;
 use crate::tally::refused;
+use records::Record;
+use records::write_record;
 use refusal::Verdict;
 use refusal::number;
 use room::Written;
 use std::num::wrapping_add_u64;
-use weighing_log::Record;
-use weighing_log::write_record;
 ghost use mathlib.Core.Path.{_≡_};
 ghost use Prim.Native.Nat.{_≤_};
 ghost use lib.ListN.{length};

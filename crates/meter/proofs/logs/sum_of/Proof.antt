@@ -3,8 +3,8 @@ use Prim.Native.Nat.{_≤_, _-_}
 use native.Mathlib.Omega.{arith}
 use borrow.Author.Needs.{needs}
 use lib.ListN.{length}
-use Rattle.meter.proofs.records.sum_of.Statement.{statement}
-use Rattle.meter.proofs.records.sum_of.Tie as tie
+use Rattle.meter.proofs.logs.sum_of.Statement.{statement}
+use Rattle.meter.proofs.logs.sum_of.Tie as tie
 
 abbrev Inv-loop : tie.InvT-loop
 Inv-loop page sum₀ at₀ sum at = (at ≤ length page)

@@ -4,8 +4,8 @@ use mathlib.Core.Path.{_≡_}
 use native.Mathlib.Omega.{arith}
 use borrow.Author.Needs.{needs}
 use lib.ListN.{length}
-use Rattle.meter.proofs.records.write_records.Statement.{statement}
-use Rattle.meter.proofs.records.write_records.Tie as tie
+use Rattle.meter.proofs.logs.write_records.Statement.{statement}
+use Rattle.meter.proofs.logs.write_records.Tie as tie
 
 abbrev Inv-loop : tie.InvT-loop
 Inv-loop block page₀ counts₀ most at₀ page counts at = (at ≤ most) × (length page ≡ length page₀)
