@@ -127,8 +127,8 @@ class Listed:
 
 
 def list_event(number: int, event: Event) -> Listed:
-    """The line of an event, as the event of that number. It is read as a reply. The check of a frame is not made again: list what a
-    reader heard, not bytes that nobody has judged.
+    """The line of an event, as the event of that number. It is read as a reply. The body of a frame is judged again, check and all: bytes
+    that nobody heard list as the refusal they earn.
 
     >>> list_event(2, Frame(wire=10, kept=7, body=bytes.fromhex('01c20500009132')))
     Listed(line='2 weight net 1 - 000005 1 1 0\\n', entry=<Entry.WEIGHT: 1>)

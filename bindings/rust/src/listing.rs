@@ -50,7 +50,8 @@ impl Total {
     }
 }
 
-/// The line of an event, which is read as a reply, into lent room; or 9, and the room as it stood. Events are numbered from 1.
+/// The line of an event, which is read as a reply, into lent room; or 9, and the room as it stood. Events are numbered from 1. The body of a
+/// frame is judged again, check and all: bytes that nobody heard list as the refusal they earn.
 ///
 /// ```
 /// use quay::{list_event, Entry, Event, Refusal, WirePlace};
