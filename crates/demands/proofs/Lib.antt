@@ -1,10 +1,11 @@
-pub mod Bytes
-pub mod Examples
-pub mod Messages
-pub mod Piece
-pub mod Reading
 pub mod AllHeard
 pub mod ByPlaces
-pub mod Demand3
+pub mod Bytes
 pub mod Corollaries
 pub mod Cuts
+pub mod Demand3
+pub mod Examples
+pub mod Messages
+pub mod Noted
+pub mod Piece
+pub mod Reading

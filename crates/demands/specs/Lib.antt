@@ -1,4 +1,5 @@
 pub mod Examples
 pub mod Messages
+pub mod Noted
 pub mod Reading
 pub mod Wire
