@@ -1,11 +1,11 @@
 /* The quay reader for C and C++: the fourteen functions of libquay.a.
  *
- * A weight that wasn't heard never looks like a weight of nothing. So each answer has a field `refusal`: 0, or a number of the rules paper's
+ * A weight that wasn't heard never looks like a weight of nothing. So each answer has a field `refusal` (of a step, in its item): 0, or a number of the rules paper's
  * list, and where it is not 0 no other field can pass for a weight: a value is INT64_MIN, kilograms are not a number, weight bytes are FF.
  * Ask `refusal` first all the same.
  *
  * Proved are the functions in the archive (crates/quay): each for every value of every argument, under the rules below. NOT proved is this
- * header: the declarations are written by hand. The assertions at its end hold every size and every offset to those of the library, and
+ * header: the declarations are written by hand. The assertions at its end hold every size and every offset to the numbers of the C rules, and
  * tests/host/run calls every function through it; beyond that they are as right as this text.
  *
  * Rules of lending, which C cannot hold you to:

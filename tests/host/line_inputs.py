@@ -130,7 +130,7 @@ def strange_bodies() -> Iterator[tuple[Event, bytes]]:
 
 
 def wrong_checks() -> Iterator[tuple[Event, bytes]]:
-    """Bodies whose check is wrong, each of them all right but for it: the log judges it again, and the listing does not."""
+    """Bodies whose check is wrong, each of them all right but for it: the log and the listing judge it again."""
     for code, data in ((0xC3, '51020001'), (0xC2, '05000091'), (0xA1, 'ff0000'), (0xEE, '05'), (0xC3, '5a020001'), (0x11, '')):
         for address in (('short', 1), ('serial', 70_501)):
             body = body_of(address, code, bytes.fromhex(data))
