@@ -4,7 +4,7 @@
  * list, and where it is not 0 no other field can pass for a weight: a value is INT64_MIN, kilograms are not a number, weight bytes are FF.
  * Ask `refusal` first all the same.
  *
- * Proved are the functions in the archive (crates/quay): each for every value of every argument, under the rules below. NOT proved is this
+ * Proved are the functions in the archive (crates/quay_*): each for every value of every argument, under the rules below. NOT proved is this
  * header: the declarations are written by hand. The assertions at its end hold every size and every offset to the numbers of the C rules, and
  * tests/host/run calls every function through it; beyond that they are as right as this text.
  *

@@ -1,7 +1,7 @@
 """What each function of the export library answers, from the second model.
 
 The rules themselves are tests/model's. Here stands only what crossing to another language adds to them, written from the promises in
-crates/quay/specs: phases, roles, kinds and refusals as numbers, and 8 for a number that is none; an address as two numbers; and what the
+crates/crossing/specs and crates/quay_*/specs: phases, roles, kinds and refusals as numbers, and 8 for a number that is none; an address as two numbers; and what the
 fields hold where something is refused. Each function takes the inputs of a case line in their order and gives its answer's words.
 """
 

@@ -1,4 +1,4 @@
-//! The fourteen functions of `libquay.a` and their structs, field by field as `crates/quay` has them.
+//! The fourteen functions of `libquay.a` and their structs, field by field as `crates/crossing` and `crates/quay_*` have them.
 //!
 //! A lent slice crosses as its pointer and its length. That every value of every field has a defined answer is the library's proved
 //! promise, so each cover below is safe to call with anything.

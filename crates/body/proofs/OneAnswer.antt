@@ -8,7 +8,7 @@ use Rattle.refusal.specs.declared.Verdict.{Verdict}
 use Rattle.refusal.proofs.OneAnswer.{one}
 use Rattle.body.specs.declared.addresses.Address.{Address}
 use Rattle.body.specs.declared.bodies.Opened.{Opened}
-use Rattle.body.specs.Addresses.{legal, addressLength}
+use Rattle.body.specs.Addresses.{legal, addressLength, firstByte, serialOf}
 use Rattle.body.specs.Body.{checkRight, judged, openedIf, openedBody}
 
 pub legal-one : (address : Address) (a b : Bool) → a ≡ legal address → b ≡ legal address → a ≡ b
@@ -28,3 +28,9 @@ open-one body a b = one
 
 pub address-length-one : (address : Address) (a b : ℕ) → (a ≡ addressLength address) × (a ≤ 4) → (b ≡ addressLength address) × (b ≤ 4) → a ≡ b
 address-length-one address a b p q = one (p .0) (q .0)
+
+pub first-byte-one : (address : Address) (a b : ℕ) → a ≡ firstByte address → b ≡ firstByte address → a ≡ b
+first-byte-one address a b = one
+
+pub serial-of-one : (address : Address) (a b : ℕ) → a ≡ serialOf address → b ≡ serialOf address → a ≡ b
+serial-of-one address a b = one

@@ -26,3 +26,12 @@ addressIn body = cond (eqb (getD body 0 0) 0) (Serial (getD body 1 0 + 256 * get
 unfoldable pub addressLength : Address → ℕ
 addressLength (Short address) = 1
 addressLength (Serial serial) = 4
+
+-- an address as two numbers: its first byte on the wire, and its serial, zero for a short one
+abbrev pub firstByte : Address → ℕ
+firstByte (Short address) = address
+firstByte (Serial serial) = 0
+
+abbrev pub serialOf : Address → ℕ
+serialOf (Short address) = 0
+serialOf (Serial serial) = serial

@@ -1,6 +1,6 @@
 // What an address is: a short one, or the serial number of a terminal.
 ghost use mathlib.Core.Path.{_≡_};
-ghost use Rattle.body.specs.Addresses.{legal};
+ghost use Rattle.body.specs.Addresses.{legal, firstByte, serialOf};
 
 pub enum Address {
     Short(u8),
@@ -24,5 +24,25 @@ pub fn legal(address: Address) -> bool
             byte <= HIGHEST_SHORT
         }
         Address::Serial(serial) => serial <= HIGHEST_SERIAL,
+    }
+}
+
+// The first byte of an address on the wire: 00 says that a serial follows.
+pub fn first_byte(address: Address) -> u8
+    ensures { λ r. ⌜ r ≡ firstByte address ⌝ }
+{
+    match address {
+        Address::Short(byte) => byte,
+        Address::Serial(_) => 0,
+    }
+}
+
+// The serial of an address, 0 for a short one.
+pub fn serial_of(address: Address) -> u32
+    ensures { λ r. ⌜ r ≡ serialOf address ⌝ }
+{
+    match address {
+        Address::Short(_) => 0,
+        Address::Serial(serial) => serial,
     }
 }

@@ -3,7 +3,9 @@ mod addresses;
 mod bodies;
 
 pub use addresses::Address;
+pub use addresses::first_byte;
 pub use addresses::legal;
+pub use addresses::serial_of;
 pub use bodies::LONGEST;
 pub use bodies::Opened;
 pub use bodies::Parts;

@@ -1,27 +1,22 @@
--- Shown: an event's entry is what the paper's event lists as.
--- Why: the event is the one that the arm names, and what is read of a frame is the front of the lent bytes.
+-- Shown: a message that is no weight lists by its code; an event that is no frame lists the same, however a body would be read.
+-- Why: case by case; the constructors left are all but the one that was asked.
 use Prim.Native.Nat.{ℕ}
 use mathlib.Core.Path.{_≡_, refl}
 use mathlib.Core.Bool.{true}
 use mathlib.Core.List.{List, [], _∷_}
 use types.Run.{OneOf, miss}
 use denote.Enum.Declared.{tagOf}
-use lib.ListN.{take}
 use Rattle.body.specs.declared.addresses.Address.{Address}
-use Rattle.line.specs.declared.places.WirePlace.{WirePlace}
-use Rattle.line.specs.declared.places.BodyPlace.{BodyPlace}
-use Rattle.line.specs.declared.places.Event.{Event}
-use Rattle.line.specs.declared.places.Event.the-variants.{Frame}
-use Rattle.line.specs.Readers.{heardAs}
-use Rattle.codes.specs.declared.table.Role.the-variants.{Reply}
 use Rattle.message.specs.declared.meaning.What.{What}
 use Rattle.message.specs.declared.meaning.What.the-variants as says
 use Rattle.message.proofs.meaning.What.{the-type}
-use Rattle.message.specs.declared.reading.Received.{Received}
-use Rattle.message.specs.Reading.{readIf}
+use Rattle.line.specs.declared.places.Event.{Event}
+use Rattle.line.specs.declared.places.Event.the-variants as event-as
+use Rattle.line.proofs.places.Event as event-is
+use Rattle.line.specs.Readers.{heardAs}
 use Rattle.entries.specs.declared.entries.Entry.{Entry}
 use Rattle.entries.specs.declared.entries.Entry.the-variants.{Message}
-use Rattle.entries.specs.Entries.{messageEntry, entryOf, entryGiven}
+use Rattle.entries.specs.Entries.{messageEntry, entryIf, entryHeard}
 
 -- the constructors that are no weight
 abbrev others : List ℕ
@@ -41,8 +36,9 @@ no-weight address code (says.Event event from to) other = refl
 no-weight address code (says.Adc value) other = refl
 no-weight address code (says.Error error) other = refl
 
--- a frame, of which the front of the lent bytes was read
-pub frame-entry : {event : Event} (wire : WirePlace) (place : BodyPlace) (body : List ℕ) {part : List ℕ} {received : Received} {entry : Entry} → event ≡ Frame wire place
-    → part ≡ take (place .0) body → received ≡ readIf true Reply part → entry ≡ entryOf received → entry ≡ entryGiven (heardAs event body)
-unfolding entryGiven
-frame-entry wire place body is-frame front was-read listed = rw (listed, was-read, front, is-frame)
+-- an event without a body
+pub no-frame : (event : Event) (body : List ℕ) → OneOf (0 ∷ 2 ∷ []) (tagOf event-is.the-type event) → entryIf true (heardAs event body) ≡ entryHeard (heardAs event body)
+unfolding entryIf entryHeard
+no-frame event-as.Nothing body other = refl
+no-frame (event-as.Frame wire kept) body other = absurd (miss (0 ∷ 2 ∷ []) 1 tt other)
+no-frame (event-as.Refused why wire kept) body other = refl

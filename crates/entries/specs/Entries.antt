@@ -1,6 +1,7 @@
 -- 01, "Judged examples": "A capture is read as replies throughout." What each event lists as: a weight, another message, or a refusal.
 use Prim.Native.Nat.{ℕ}
 use mathlib.Core.Bool.{Bool, true}
+use mathlib.Core.List.{List}
 use Rattle.body.specs.declared.addresses.Address.{Address}
 use Rattle.line.specs.Listener.{Heard, nothing, frame, refused}
 use Rattle.weight.specs.Bytes.{legal}
@@ -32,18 +33,19 @@ abbrev pub entryOf : Received → Entry
 entryOf (received-as.Message message) = messageEntry (message .address) (message .code) (message .what)
 entryOf (received-as.Refused why) = Refused why
 
--- an event of the line: a frame's body is read as a reply; the refusals of the line and of the message list alike
-unfoldable pub entryHeard : Heard → Entry
-entryHeard nothing = Nothing
-entryHeard (frame wire kept body) = entryOf (readMessage Reply body)
-entryHeard (refused why wire kept) = Refused why
+-- an event of the line, its body read in some way; the refusals of the line and of the message list alike
+abbrev pub entryBy : (List ℕ → Received) → Heard → Entry
+entryBy reads nothing = Nothing
+entryBy reads (frame wire kept body) = entryOf (reads body)
+entryBy reads (refused why wire kept) = Refused why
 
--- the same without the check made again: a line hands out a body only where its check is right, so of what it hands out the two are one
--- (law `handed-out`)
-unfoldable pub entryGiven : Heard → Entry
-entryGiven nothing = Nothing
-entryGiven (frame wire kept body) = entryOf (readIf true Reply body)
-entryGiven (refused why wire kept) = Refused why
+-- a frame's body is read as a reply
+unfoldable pub entryHeard : Heard → Entry
+entryHeard = entryBy (readMessage Reply)
+
+-- the same, given whether its check is right: a line hands out a body only where it is, so of what it hands out the two are one (law `handed-out`)
+unfoldable pub entryIf : Bool → Heard → Entry
+entryIf right = entryBy (readIf right Reply)
 
 -- "A reading handed in with a number above 999,999 or a point above 7 is refusal 8 wherever it is used."
 abbrev pub sound : Entry → Bool

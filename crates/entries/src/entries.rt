@@ -5,12 +5,14 @@ use codes::Role;
 use line::Event;
 use message::Received;
 use message::What;
+use message::read;
 use message::read_checked;
 use refusal::Refusal;
+use room::front;
 use weight::Reading;
 ghost use mathlib.Core.Path.{_≡_};
 ghost use Rattle.line.specs.Readers.{heardAs};
-ghost use Rattle.entries.specs.Entries.{messageEntry, entryOf, entryGiven};
+ghost use Rattle.entries.specs.Entries.{messageEntry, entryOf, entryIf, entryHeard};
 
 // What is to be listed.
 pub enum Entry {
@@ -44,20 +46,25 @@ pub fn entry_of(received: Received) -> Entry
     }
 }
 
-// An event as it is to be listed. The body of a frame stands at the front of `body`, as the reader leaves it, and is read as a
-// reply, its check not made again; of any other event `body` is not looked at.
-pub fn heard(event: Event, body: &[u8]) -> Entry
-    ensures { λ r. ⌜ r ≡ entryGiven (heardAs event (now (body .entry))) ⌝ }
+// An event as it is to be listed, given whether the check of its body is right: a line hands out no other body, so that a listing
+// need not make it again. The body of a frame stands at the front of `body`, as the reader leaves it, and is read as a reply; of any other
+// event `body` is not looked at.
+pub fn heard_checked(right: bool, event: Event, body: &[u8]) -> Entry
+    ensures { λ r. ⌜ r ≡ entryIf right (heardAs event (now (body .entry))) ⌝ }
 {
     match event {
         Event::Nothing => Entry::Nothing,
         Event::Refused(why, _, _) => Entry::Refused(why),
-        Event::Frame(_, place) => {
-            let kept = place.0;
-            if body.len() < kept {
-                return entry_of(read_checked(Role::Reply, true, body));
-            }
-            entry_of(read_checked(Role::Reply, true, &body[0..kept]))
-        }
+        Event::Frame(_, place) => entry_of(read_checked(Role::Reply, right, front(body, place.0))),
+    }
+}
+
+// An event as it is to be listed, its body judged again, check and all.
+pub fn heard(event: Event, body: &[u8]) -> Entry
+    ensures { λ r. ⌜ r ≡ entryHeard (heardAs event (now (body .entry))) ⌝ }
+{
+    match event {
+        Event::Frame(_, place) => entry_of(read(Role::Reply, front(body, place.0))),
+        _ => heard_checked(true, event, body),
     }
 }

@@ -4,7 +4,7 @@ use crate::page::flush;
 use crate::page::front;
 use crate::page::put;
 use entries::Entry;
-use entries::heard;
+use entries::heard_checked;
 use line::Event;
 use line::Reader;
 use listing::write_line;
@@ -79,7 +79,7 @@ pub fn list_block(tally: Tally, block: &[u8], room: &mut [u8]) -> Tally {
         place = next;
         at += went.used;
         let event = went.event;
-        let entry = heard(event, &reader.body);
+        let entry = heard_checked(true, event, &reader.body);
         counts = counted(counts, entry);
         page = tell(counts.lines, entry, page, room);
     }

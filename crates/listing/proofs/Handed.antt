@@ -2,12 +2,13 @@
 -- Why: of what a line hands out, an event lists the same whether the check of its body is made again or not.
 use Prim.Native.Nat.{ℕ}
 use mathlib.Core.Path.{_≡_, ap}
+use mathlib.Core.Bool.{true}
 use mathlib.Core.List.{List, map}
 use Rattle.line.specs.Listener.{Listener, events}
-use Rattle.entries.specs.Entries.{entryGiven}
+use Rattle.entries.specs.Entries.{entryIf}
 use Rattle.entries.proofs.Handed.{handed-out}
 use Rattle.listing.specs.Whole.{listed, listing}
 
-pub lists-the-same : (listener : Listener) (wire : List ℕ) → listed (map entryGiven (events listener wire)) ≡ listing (events listener wire)
+pub lists-the-same : (listener : Listener) (wire : List ℕ) → listed (map (entryIf true) (events listener wire)) ≡ listing (events listener wire)
 unfolding listing
 lists-the-same listener wire = ap listed (handed-out listener wire)

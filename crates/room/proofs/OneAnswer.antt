@@ -3,6 +3,7 @@
 use Prim.Native.Nat.{ℕ}
 use mathlib.Core.Path.{_≡_}
 use mathlib.Core.List.{List, [], _∷_}
+use lib.ListN.{take}
 use Rattle.refusal.specs.declared.Refusal.{Refusal}
 use Rattle.refusal.proofs.OneAnswer.{one}
 use Rattle.room.specs.declared.Written.{Written}
@@ -21,3 +22,6 @@ lay-byte-one = lay-one
 -- a write's promise fixes the answer and every byte of the lent room
 pub leaves-one : {write : Left} {a b : Written} {l m : List ℕ} → Leaves write a l → Leaves write b m → (a ≡ b) × (l ≡ m)
 leaves-one p q = (one (p .answer) (q .answer), one (p .room) (q .room))
+
+pub front-one : (lent : List ℕ) (count : ℕ) (a b : List ℕ) → a ≡ take count lent → b ≡ take count lent → a ≡ b
+front-one lent count a b = one

@@ -1,9 +1,10 @@
 // Lent room: what a write answers, and bytes laid into a room one piece after the other. A room is the
-// caller's; what is not written stays as it stood.
+// caller's; what is not written stays as it stood. And the front of bytes lent to be read.
 use refusal::Refusal;
 use refusal::Verdict;
 ghost use mathlib.Core.Path.{_≡_};
 ghost use mathlib.Core.List.{[], _∷_};
+ghost use lib.ListN.{take};
 ghost use Rattle.room.specs.Laying.{Laid};
 ghost use Rattle.room.specs.Writing.{refusedWrite};
 
@@ -47,4 +48,14 @@ pub fn lay(source: &[u8], room: &mut [u8], at: usize) -> usize
     }
     let count = bytes::copy(source, &mut room[at..]);
     at + count
+}
+
+// The first bytes that were lent, or all of them where fewer are lent.
+pub fn front(lent: &[u8], count: usize) -> &[u8]
+    ensures { λ r. ⌜ now r ≡ take count (now (lent .entry)) ⌝ }
+{
+    if lent.len() < count {
+        return &lent[0..lent.len()];
+    }
+    &lent[0..count]
 }

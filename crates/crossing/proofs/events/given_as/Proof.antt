@@ -1,0 +1,22 @@
+-- `crossing::given_as` meets its contract: a refusal that has the number, or 8.
+-- Why: the name is the one that the arm has.
+use borrow.Author.Needs.{needs}
+use Rattle.crossing.proofs.events.given_as.Statement.{statement}
+use Rattle.crossing.proofs.events.given_as.Tie as tie
+use Rattle.crossing.proofs.events.given_as.Reads as reads
+use Rattle.crossing.proofs.events.given_as.Lts as lts
+
+enum-known-named : tie.Need-enum-known-named
+enum-known-named c = search needs
+
+enum-told : tie.Need-enum-told
+enum-told c = search needs
+
+returns : tie.Need-returns
+returns c = rw (c .before .named .given .1)
+
+returns-2 : tie.Need-returns-2
+returns-2 c = rw (c .enum-told .given .1)
+
+pub given-as-spec : {M : Type 1} → statement M
+given-as-spec = tie.close (tie.spec enum-known-named enum-told returns returns-2)

@@ -1,0 +1,24 @@
+-- Events as they cross to another language, as numbers.
+use Prim.Native.Nat.{ℕ}
+use mathlib.Core.Bool.{cond}
+use lib.Dec.{eqb}
+use Rattle.refusal.specs.declared.Refusal.the-variants.{FieldOutside}
+use Rattle.refusal.specs.declared.Named.{Named}
+use Rattle.refusal.specs.declared.Named.the-variants as named-as
+use Rattle.refusal.specs.Numbers.{namedOf}
+use Rattle.line.specs.declared.places.Event.the-variants.{Nothing, Frame, Refused}
+use Rattle.crossing.specs.declared.events.QuayEvent.{QuayEvent}
+use Rattle.crossing.specs.declared.events.Given.{Given}
+use Rattle.crossing.specs.declared.events.Given.the-variants as given-as
+
+-- a refusal handed in by its number; 8 where there is none with that number
+abbrev pub givenAs : Named → QuayEvent → Given
+givenAs (named-as.Refusal why) event = given-as.Event (Refused why (record { 0 = event .wire }) (record { 0 = event .kept }))
+givenAs named-as.Unknown event = given-as.Refused FieldOutside
+
+-- an event handed in; 8 where there is none of that kind
+unfoldable pub eventFrom : QuayEvent → Given
+eventFrom event =
+    cond (eqb (event .kind) 0) (given-as.Event Nothing)
+    (cond (eqb (event .kind) 1) (given-as.Event (Frame (record { 0 = event .wire }) (record { 0 = event .kept })))
+    (cond (eqb (event .kind) 2) (givenAs (namedOf (event .refusal)) event) (given-as.Refused FieldOutside)))

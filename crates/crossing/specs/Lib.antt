@@ -1,0 +1,3 @@
+pub mod Events
+pub mod Roles
+pub mod Writing

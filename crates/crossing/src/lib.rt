@@ -1,0 +1,14 @@
+// What crosses to another language in more than one place: events, roles, weights and the answer of a write, as numbers and small structs by value.
+mod events;
+mod roles;
+mod weights;
+mod writing;
+
+pub use events::Given;
+pub use events::QuayEvent;
+pub use events::event_from;
+pub use roles::Asked;
+pub use roles::role_from;
+pub use weights::QuayWeight;
+pub use writing::QuayWritten;
+pub use writing::written_out;

@@ -1,4 +1,0 @@
-pub mod Back
-pub mod Crossing
-pub mod NoNumber
-pub mod OneAnswer

@@ -1,0 +1,17 @@
+-- `quay_line::place_out` meets its contract: a place as its numbers.
+-- Why: the phase has its number.
+use borrow.Author.Needs.{needs}
+use Rattle.quay_line.proofs.places.place_out.Statement.{statement}
+use Rattle.quay_line.proofs.places.place_out.Tie as tie
+use Rattle.quay_line.proofs.places.place_out.Reads as reads
+use Rattle.quay_line.proofs.places.place_out.Lts as lts
+use Rattle.quay_line.proofs.places.phase_number.Reads as phase-number-reads
+
+phase-number-requires : tie.Need-phase-number-requires
+phase-number-requires c κs = search needs
+
+returns : tie.Need-returns
+returns c = rw (c .phase-number .ensures)
+
+pub place-out-spec : {M : Type 1} → statement M
+place-out-spec = tie.close (tie.spec phase-number-requires returns)

@@ -1,0 +1,31 @@
+-- `quay_listing::list_entry` meets its contract: the line of an entry in the first bytes of the room, and what it was.
+-- Why: the listing's promise crosses.
+use borrow.Author.Needs.{needs}
+use Rattle.quay_listing.proofs.lines.list_entry.Statement.{statement}
+use Rattle.quay_listing.proofs.lines.list_entry.Tie as tie
+use Rattle.quay_listing.proofs.lines.list_entry.Reads as reads
+use Rattle.quay_listing.proofs.lines.list_entry.Lts as lts
+use Rattle.listing.proofs.write_line.Reads as write-line-reads
+use Rattle.quay_listing.proofs.lines.entry_number.Reads as entry-number-reads
+use Rattle.crossing.proofs.written_out.Reads as written-out-reads
+
+entry-number-requires : tie.Need-entry-number-requires
+entry-number-requires c κs = search needs
+
+write-line-requires : tie.Need-write-line-requires
+write-line-requires c κs = search needs
+
+written-out-requires : tie.Need-written-out-requires
+written-out-requires c κs = search needs
+
+same-length : tie.Need-same-length
+same-length c = search needs
+
+returns : tie.Need-returns
+returns c = let below = c .before .before .before .write-line .ensures in
+    record { answer = rw (c .written-out .ensures, below .answer, c .before .before .before .before .before .entry-number .ensures); room = below .room }
+
+pub list-entry-spec : {M : Type 1} → statement M
+list-entry-spec =
+    tie.close
+    (tie.spec entry-number-requires write-line-requires written-out-requires same-length returns)

@@ -1,0 +1,48 @@
+-- Lines across: what `listing` writes of an event, and what it was, for the counts of the total.
+use Prim.Native.Nat.{ℕ}
+use mathlib.Core.Path.{_≡_}
+use mathlib.Core.List.{List}
+use Rattle.refusal.specs.declared.Refusal.{Refusal}
+use Rattle.refusal.specs.Numbers.{numberOf, verdictNumber}
+use Rattle.room.specs.declared.Written.{Written}
+use Rattle.line.specs.Readers.{heardAs}
+use Rattle.entries.specs.declared.entries.Entry.{Entry}
+use Rattle.entries.specs.declared.entries.Entry.the-variants as entry-as
+use Rattle.entries.specs.Entries.{entryHeard}
+use Rattle.listing.specs.Writing.{writtenLine}
+use Rattle.crossing.specs.declared.events.QuayEvent.{QuayEvent}
+use Rattle.crossing.specs.declared.events.Given.{Given}
+use Rattle.crossing.specs.declared.events.Given.the-variants as given-as
+use Rattle.quay_listing.specs.declared.lines.QuayListed.{QuayListed}
+use Rattle.crossing.specs.Events.{eventFrom}
+
+abbrev pub entryNumber : Entry → ℕ
+entryNumber entry-as.Nothing = 0
+entryNumber (entry-as.Weight load address reading) = 1
+entryNumber (entry-as.Message address code) = 2
+entryNumber (entry-as.Refused why) = 3
+
+abbrev pub listedOut : Entry → Written → QuayListed
+listedOut entry written = record { length = written .length; entry = entryNumber entry; refusal = verdictNumber (written .verdict) }
+
+abbrev pub unlisted : Refusal → QuayListed
+unlisted why = record { length = 0; entry = 0; refusal = numberOf why }
+
+-- a promise: the answer, and every byte of the room
+pub record ListsEntry (number : ℕ) (entry : Entry) (before : List ℕ) (answered : QuayListed) (left : List ℕ) : Type 0 where
+  pub answer : answered ≡ listedOut entry (writtenLine number entry before .answer)
+  pub room : left ≡ writtenLine number entry before .room
+
+-- the answer and the room of an event that was handed in; refused, length 0 beside its number and every byte as it stood
+abbrev pub listedGiven : ℕ → Given → List ℕ → List ℕ → QuayListed
+listedGiven number (given-as.Event event) body room =
+    listedOut (entryHeard (heardAs event body)) (writtenLine number (entryHeard (heardAs event body)) room .answer)
+listedGiven number (given-as.Refused why) body room = unlisted why
+
+abbrev pub leftGiven : ℕ → Given → List ℕ → List ℕ → List ℕ
+leftGiven number (given-as.Event event) body room = writtenLine number (entryHeard (heardAs event body)) room .room
+leftGiven number (given-as.Refused why) body room = room
+
+pub record Lists (number : ℕ) (event : QuayEvent) (body before : List ℕ) (answered : QuayListed) (left : List ℕ) : Type 0 where
+  pub answer : answered ≡ listedGiven number (eventFrom event) body before
+  pub room : left ≡ leftGiven number (eventFrom event) body before

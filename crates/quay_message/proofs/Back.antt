@@ -1,0 +1,28 @@
+-- Shown: a legal address that crosses comes back as itself, and the bytes that stand for no weight read as none.
+-- Why: a legal short address is not 0; no half of FF is a digit.
+use Prim.Native.Nat.{ℕ}
+use mathlib.Core.Path.{_≡_, refl}
+use mathlib.Core.Bool.{Bool, true, _&&_}
+use borrow.Author.Tests.{ne-eqb, leb-true}
+use native.Mathlib.Omega.{arith}
+use lib.Dec.{eqb, leb}
+use Rattle.refusal.specs.declared.Refusal.the-variants.{FieldOutside}
+use Rattle.refusal.proofs.Booleans.{both-left}
+use Rattle.body.specs.declared.addresses.Address.{Address}
+use Rattle.body.specs.declared.addresses.Address.the-variants.{Short, Serial}
+use Rattle.body.specs.Addresses.{legal, firstByte, serialOf}
+use Rattle.weight.specs.declared.Read.the-variants as read-as
+use Rattle.weight.specs.Bytes.{readOf}
+use Rattle.quay_message.specs.Addresses.{addressFrom}
+use Rattle.quay_message.specs.Messages.{noWeight}
+
+pub address-back : (address : Address) → legal address ≡ true → addressFrom (firstByte address) (serialOf address) ≡ address
+unfolding addressFrom legal
+address-back (Serial serial) is-legal = refl
+address-back (Short short) is-legal =
+    let low = leb-true 1 short (both-left (leb 1 short) _ is-legal) in
+    rw (ne-eqb short 0 (λ (e : short ≡ 0). omega arith))
+
+pub no-weight : readOf (noWeight .w0) (noWeight .w1) (noWeight .w2) (noWeight .con) ≡ read-as.Refused FieldOutside
+unfolding readOf
+no-weight = refl

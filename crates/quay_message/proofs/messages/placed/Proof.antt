@@ -1,0 +1,17 @@
+-- `quay_message::placed` meets its contract: a kind that says a place has no weight.
+-- Why: the rest of its fields are constants.
+use borrow.Author.Needs.{needs}
+use Rattle.quay_message.proofs.messages.placed.Statement.{statement}
+use Rattle.quay_message.proofs.messages.placed.Tie as tie
+use Rattle.quay_message.proofs.messages.placed.Reads as reads
+use Rattle.quay_message.proofs.messages.placed.Lts as lts
+use Rattle.quay_message.proofs.messages.no_weight.Reads as no-weight-reads
+
+no-weight-requires : tie.Need-no-weight-requires
+no-weight-requires c κs = search needs
+
+returns : tie.Need-returns
+returns c = rw (c .no-weight .ensures)
+
+pub placed-spec : {M : Type 1} → statement M
+placed-spec = tie.close (tie.spec no-weight-requires returns)

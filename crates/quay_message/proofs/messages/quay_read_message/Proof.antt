@@ -1,0 +1,48 @@
+-- `quay_message::quay_read_message` meets its contract: a body read in a role, or its refusal's number.
+-- Why: a role that is none is refused first; what was received crosses.
+use borrow.Author.Needs.{needs}
+use Rattle.quay_message.proofs.messages.quay_read_message.Statement.{statement}
+use Rattle.quay_message.proofs.messages.quay_read_message.Tie as tie
+use Rattle.quay_message.proofs.messages.quay_read_message.Reads as reads
+use Rattle.quay_message.proofs.messages.quay_read_message.Lts as lts
+use Rattle.crossing.proofs.role_from.Reads as role-from-reads
+use Rattle.message.proofs.read.Reads as read-reads
+use Rattle.quay_message.proofs.messages.no_message.Reads as no-message-reads
+use Rattle.quay_message.proofs.messages.received_out.Reads as received-out-reads
+
+role-from-requires : tie.Need-role-from-requires
+role-from-requires c κs = search needs
+
+enum-known-why : tie.Need-enum-known-why
+enum-known-why c = search needs
+
+no-message-requires : tie.Need-no-message-requires
+no-message-requires c κs = search needs
+
+enum-known-asked : tie.Need-enum-known-asked
+enum-known-asked c = search needs
+
+read-requires : tie.Need-read-requires
+read-requires c κs = search needs
+
+received-out-requires : tie.Need-received-out-requires
+received-out-requires c κs = search needs
+
+returns : tie.Need-returns
+returns c = rw (c .no-message .ensures, ← c .before .before .before .before .role-from .ensures, c .before .before .why .given .1)
+
+returns-2 : tie.Need-returns-2
+returns-2 c = rw (c .received-out .ensures, c .before .read .ensures, ← c .before .before .before .before .before .role-from .ensures, c .before .before .before .asked .given .1)
+
+pub quay-read-message-spec : {M : Type 1} → statement M
+quay-read-message-spec =
+    tie.close
+    (tie.spec
+    role-from-requires
+    enum-known-why
+    no-message-requires
+    enum-known-asked
+    read-requires
+    received-out-requires
+    returns
+    returns-2)

@@ -1,0 +1,65 @@
+-- `quay_message::quay_write_message` meets its contract: the frame of a message in the first bytes of the room, or its refusal's number.
+-- Why: a role that is none is refused first, and then the message layer's promise crosses.
+use mathlib.Core.Path.{_∙_, sym}
+use Rattle.crossing.proofs.Crossing.{crosses, crosses-not}
+use borrow.Author.Needs.{needs}
+use Rattle.quay_message.proofs.writing.quay_write_message.Statement.{statement}
+use Rattle.quay_message.proofs.writing.quay_write_message.Tie as tie
+use Rattle.quay_message.proofs.writing.quay_write_message.Reads as reads
+use Rattle.quay_message.proofs.writing.quay_write_message.Lts as lts
+use Rattle.crossing.proofs.role_from.Reads as role-from-reads
+use Rattle.crossing.proofs.written_out.Reads as written-out-reads
+use Rattle.message.proofs.write.Reads as write-reads
+use Rattle.quay_message.proofs.addresses.address_from.Reads as address-from-reads
+use Rattle.room.proofs.refused_write.Reads as refused-write-reads
+
+role-from-requires : tie.Need-role-from-requires
+role-from-requires c κs = search needs
+
+enum-known-why : tie.Need-enum-known-why
+enum-known-why c = search needs
+
+refused-write-requires : tie.Need-refused-write-requires
+refused-write-requires c κs = search needs
+
+written-out-requires : tie.Need-written-out-requires
+written-out-requires c κs = search needs
+
+enum-known-asked : tie.Need-enum-known-asked
+enum-known-asked c = search needs
+
+address-from-requires : tie.Need-address-from-requires
+address-from-requires c κs = search needs
+
+write-requires : tie.Need-write-requires
+write-requires c κs = search needs
+
+written-out-requires-2 : tie.Need-written-out-requires-2
+written-out-requires-2 c κs = search needs
+
+returns : tie.Need-returns
+returns c = let none = sym (c .before .before .before .before .before .role-from .ensures) ∙ c .before .before .before .why .given .1 in
+    rw none (crosses-not _ _ (c .before .refused-write .ensures) (c .written-out .ensures))
+
+same-length : tie.Need-same-length
+same-length c = search needs
+
+returns-2 : tie.Need-returns-2
+returns-2 c = let some = sym (c .before .before .before .before .before .before .before .before .before .role-from .ensures) ∙ c .before .before .before .before .before .before .before .asked .given .1 in
+    rw some (crosses (rw (c .before .before .before .before .before .address-from .ensures) at (c .before .before .before .write .ensures)) (c .written-out2 .ensures))
+
+pub quay-write-message-spec : {M : Type 1} → statement M
+quay-write-message-spec =
+    tie.close
+    (tie.spec
+    role-from-requires
+    enum-known-why
+    refused-write-requires
+    written-out-requires
+    enum-known-asked
+    address-from-requires
+    write-requires
+    written-out-requires-2
+    returns
+    same-length
+    returns-2)

@@ -1,0 +1,71 @@
+-- Messages across: what a body says, as numbers, four weight bytes, or a place in the body.
+use Prim.Native.Nat.{ℕ}
+use mathlib.Core.List.{List}
+use Rattle.refusal.specs.declared.Refusal.{Refusal}
+use Rattle.refusal.specs.Numbers.{numberOf}
+use Rattle.body.specs.Addresses.{firstByte, serialOf}
+use Rattle.weight.specs.declared.Packed.{Packed}
+use Rattle.weight.specs.declared.Packed.the-variants as packed-as
+use Rattle.weight.specs.Bytes.{bytesOf}
+use Rattle.message.specs.declared.meaning.What.{What}
+use Rattle.message.specs.declared.meaning.What.the-variants as says
+use Rattle.message.specs.declared.reading.Message.{Message}
+use Rattle.message.specs.declared.reading.Received.{Received}
+use Rattle.message.specs.declared.reading.Received.the-variants as received-as
+use Rattle.message.specs.Reading.{readMessage}
+use Rattle.records.specs.Records.{kindOf}
+use Rattle.crossing.specs.declared.weights.QuayWeight.{QuayWeight}
+use Rattle.crossing.specs.declared.roles.Asked.{Asked}
+use Rattle.crossing.specs.declared.roles.Asked.the-variants as asked-as
+use Rattle.quay_message.specs.declared.messages.QuayWhat.{QuayWhat}
+use Rattle.quay_message.specs.declared.messages.QuayMessage.{QuayMessage}
+
+-- no half of these bytes is a digit: they read as no weight
+abbrev pub noWeight : QuayWeight
+noWeight = record { w0 = 255; w1 = 255; w2 = 255; con = 255 }
+
+abbrev pub weightOut : Packed → QuayWeight
+weightOut (packed-as.Bytes w0 w1 w2 con) = record { w0 = w0; w1 = w1; w2 = w2; con = con }
+weightOut (packed-as.Refused why) = noWeight
+
+abbrev pub plain : ℕ → ℕ → ℕ → QuayWhat
+plain kind number on = record { number = number; from = 0; to = 0; on = on; weight = noWeight; load = 0; says = kind }
+
+abbrev pub placed : ℕ → ℕ → ℕ → ℕ → QuayWhat
+placed kind number from to = record { number = number; from = from; to = to; on = 0; weight = noWeight; load = 0; says = kind }
+
+abbrev pub whatOut : What → QuayWhat
+whatOut says.Nothing = plain 0 0 0
+whatOut (says.Serial serial) = plain 1 serial 0
+whatOut (says.Number number) = plain 2 number 0
+whatOut (says.Status status) = plain 3 status 0
+whatOut (says.Weight load reading) = record { number = 0; from = 0; to = 0; on = 0; weight = weightOut (bytesOf reading); load = kindOf load; says = 4 }
+whatOut (says.Inputs bits on) = plain 5 bits on
+whatOut (says.Outputs bits) = plain 6 bits 0
+whatOut (says.Text number from to) = placed 7 number from to
+whatOut (says.Event event from to) = placed 8 event from to
+whatOut (says.Adc number) = plain 9 number 0
+whatOut (says.Error error) = plain 10 error 0
+
+abbrev pub messageOut : Message → QuayMessage
+messageOut message = record {
+  what = whatOut (message .what);
+  from = message .from;
+  to = message .to;
+  serial = serialOf (message .address);
+  short = firstByte (message .address);
+  code = message .code;
+  refusal = 0;
+}
+
+abbrev pub noMessage : Refusal → QuayMessage
+noMessage why = record { what = plain 0 0 0; from = 0; to = 0; serial = 0; short = 0; code = 0; refusal = numberOf why }
+
+abbrev pub receivedOut : Received → QuayMessage
+receivedOut (received-as.Message message) = messageOut message
+receivedOut (received-as.Refused why) = noMessage why
+
+-- a body read in a role that was handed in; a role that is none is refused ahead of the body's own
+abbrev pub messageIn : Asked → List ℕ → QuayMessage
+messageIn (asked-as.Role role) body = receivedOut (readMessage role body)
+messageIn (asked-as.Refused why) body = noMessage why

@@ -1,0 +1,49 @@
+// Frames and messages written into lent room.
+use crate::addresses::address_from;
+use crossing::Asked;
+use crossing::QuayWritten;
+use crossing::role_from;
+use crossing::written_out;
+use room::refused_write;
+ghost use Rattle.frame.specs.Writing.{writtenFrame};
+ghost use Rattle.crossing.specs.Roles.{roleFrom};
+ghost use Rattle.crossing.specs.Writing.{Leaves};
+ghost use Rattle.quay_message.specs.Addresses.{addressFrom};
+ghost use Rattle.quay_message.specs.Writing.{writtenIn};
+
+// The frame of an address, a code and data. Judged 5, 2, 9.
+#[no_mangle]
+pub extern "C" fn quay_write_frame(
+    short: u8,
+    serial: u32,
+    code: u8,
+    data: &[u8],
+    room: &mut [u8],
+) -> QuayWritten
+    ensures { λ r. ⌜ Leaves (writtenFrame (addressFrom short serial) code (now («data» .entry)) (now (room .entry))) r (now (room .exit)) ⌝ }
+{
+    let written = frame::write(address_from(short, serial), code, data, room);
+    written_out(written)
+}
+
+// The frame of a message, in a role. Judged 8 for a role that is none, and then 5, 6, 7, 8, 2, 9.
+#[no_mangle]
+pub extern "C" fn quay_write_message(
+    role: u8,
+    short: u8,
+    serial: u32,
+    code: u8,
+    data: &[u8],
+    room: &mut [u8],
+) -> QuayWritten
+    ensures { λ r. ⌜ Leaves (writtenIn (roleFrom role) short serial code (now («data» .entry)) (now (room .entry))) r (now (room .exit)) ⌝ }
+{
+    match role_from(role) {
+        Asked::Refused(why) => written_out(refused_write(why)),
+        Asked::Role(asked) => {
+            let address = address_from(short, serial);
+            let written = message::write(asked, address, code, data, room);
+            written_out(written)
+        }
+    }
+}

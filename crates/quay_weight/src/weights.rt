@@ -1,0 +1,161 @@
+// Weights: four bytes in, as the wire and the log have them; a reading, its value, a difference, and kilograms out.
+use crossing::QuayWeight;
+use kilograms::Kilograms;
+use kilograms::kilograms_of;
+use refusal::Refusal;
+use refusal::number;
+use weight::Read;
+use weight::Reading;
+use weight::Value;
+use weight::gross_less_net;
+use weight::read_bytes;
+use weight::value_of;
+ghost use mathlib.Core.Path.{_≡_};
+ghost use Rattle.weight.specs.Bytes.{readOf};
+ghost use Rattle.quay_weight.specs.Weights.{mark, goodReading, noReading, readingOut, valueOut, valueRead, differenceRead, kilogramsOut, kilogramsRead};
+
+// What a terminal shows. The marks are 0 or 1. Refused, every other field is all ones: no such number and point are shown.
+#[repr(C)]
+pub struct QuayReading {
+    pub number: u32, // 0 to 999,999
+    pub point: u8, // digits after the point
+    pub minus: u8,
+    pub bit6: u8,
+    pub bit5: u8,
+    pub settled: u8,
+    pub overload: u8,
+    pub refusal: u8,
+}
+
+// A signed whole number of tenths of a milligram. Refused, the lowest number there is: it weighs nothing like it.
+#[repr(C)]
+pub struct QuayValue {
+    pub value: i64,
+    pub refusal: u8,
+}
+
+// A weight in kilograms. Refused, it is not a number.
+#[repr(C)]
+pub struct QuayKilograms {
+    pub kilograms: f64,
+    pub refusal: u8,
+}
+
+fn mark(set: bool) -> u8
+    ensures { λ r. ⌜ r ≡ mark set ⌝ }
+{
+    if set { 1 } else { 0 }
+}
+
+fn good_reading(reading: Reading) -> QuayReading
+    ensures { λ r. ⌜ r ≡ goodReading reading ⌝ }
+{
+    QuayReading {
+        number: reading.number,
+        point: reading.point,
+        minus: mark(reading.minus),
+        bit6: mark(reading.bit6),
+        bit5: mark(reading.bit5),
+        settled: mark(reading.settled),
+        overload: mark(reading.overload),
+        refusal: 0,
+    }
+}
+
+fn no_reading(why: Refusal) -> QuayReading
+    ensures { λ r. ⌜ r ≡ noReading why ⌝ }
+{
+    QuayReading {
+        number: 4_294_967_295,
+        point: 255,
+        minus: 255,
+        bit6: 255,
+        bit5: 255,
+        settled: 255,
+        overload: 255,
+        refusal: number(why),
+    }
+}
+
+fn value_out(value: Value) -> QuayValue
+    ensures { λ r. ⌜ r ≡ valueOut value ⌝ }
+{
+    match value {
+        Value::Tenths(tenths) => QuayValue {
+            value: tenths,
+            refusal: 0,
+        },
+        Value::Refused(why) => QuayValue {
+            value: i64::MIN,
+            refusal: number(why),
+        },
+    }
+}
+
+fn kilograms_out(weighed: Kilograms) -> QuayKilograms
+    ensures { λ r. ⌜ r ≡ kilogramsOut weighed ⌝ }
+{
+    match weighed {
+        Kilograms::Number(kilograms) => QuayKilograms {
+            kilograms,
+            refusal: 0,
+        },
+        Kilograms::Refused(why) => QuayKilograms {
+            kilograms: 0.0 / 0.0,
+            refusal: number(why),
+        },
+    }
+}
+
+fn read(weight: QuayWeight) -> Read
+    ensures { λ r. ⌜ r ≡ readOf (weight .w0) (weight .w1) (weight .w2) (weight .con) ⌝ }
+{
+    read_bytes(weight.w0, weight.w1, weight.w2, weight.con)
+}
+
+// The reading of four bytes, or 8.
+#[no_mangle]
+pub extern "C" fn quay_read_weight(weight: QuayWeight) -> QuayReading
+    ensures { λ r. ⌜ r ≡ readingOut (readOf (weight .w0) (weight .w1) (weight .w2) (weight .con)) ⌝ }
+{
+    match read(weight) {
+        Read::Good(reading) => good_reading(reading),
+        Read::Refused(why) => no_reading(why),
+    }
+}
+
+// The value of a weight in tenths of a milligram, or 8.
+#[no_mangle]
+pub extern "C" fn quay_value(weight: QuayWeight) -> QuayValue
+    ensures { λ r. ⌜ r ≡ valueOut (valueRead (readOf (weight .w0) (weight .w1) (weight .w2) (weight .con))) ⌝ }
+{
+    match read(weight) {
+        Read::Good(reading) => value_out(value_of(reading)),
+        Read::Refused(why) => value_out(Value::Refused(why)),
+    }
+}
+
+// Gross less net in tenths of a milligram, or 8.
+#[no_mangle]
+pub extern "C" fn quay_difference(gross: QuayWeight, net: QuayWeight) -> QuayValue
+    ensures { λ r. ⌜ r ≡ valueOut (differenceRead (readOf (gross .w0) (gross .w1) (gross .w2) (gross .con)) (readOf (net .w0) (net .w1) (net .w2) (net .con))) ⌝ }
+{
+    match read(gross) {
+        Read::Refused(why) => value_out(Value::Refused(why)),
+        Read::Good(gross_reading) => match read(net) {
+            Read::Refused(why) => value_out(Value::Refused(why)),
+            Read::Good(net_reading) => value_out(gross_less_net(gross_reading, net_reading)),
+        },
+    }
+}
+
+// A weight in kilograms as a 64-bit float, or 8.
+#[no_mangle]
+pub extern "C" fn quay_kilograms(weight: QuayWeight) -> QuayKilograms
+    ensures { λ r. ⌜ r ≡ kilogramsOut (kilogramsRead (readOf (weight .w0) (weight .w1) (weight .w2) (weight .con))) ⌝ }
+{
+    match read(weight) {
+        Read::Good(reading) => kilograms_out(kilograms_of(reading)),
+        Read::Refused(why) => kilograms_out(Kilograms::Refused(why)),
+    }
+}
