@@ -20,8 +20,8 @@ use Rattle.check_byte.specs.Register.{received, checkOf}
 use Rattle.check_byte.proofs.Laws.{checked, only-check}
 use Rattle.body.specs.declared.addresses.Address.{Address}
 use Rattle.body.specs.declared.addresses.Address.the-variants.{Short, Serial}
-use Rattle.body.specs.Addresses.{legal, addressBytes, addressIn, addressLength}
-use Rattle.body.specs.Body.{unchecked, bodyOf, short, judged, judgedLent, codeIn, dataIn}
+use Rattle.body.specs.Addresses.{highestShort, legal, addressBytes, addressIn, addressLength}
+use Rattle.body.specs.Body.{longest, unchecked, bodyOf, short, judged, judgedLent, codeIn, dataIn}
 use Rattle.body.proofs.Anatomy.{address-length, unchecked-length, body-length}
 use Rattle.body.proofs.Shortness.{three, address-inside, six, not-short}
 
@@ -45,13 +45,13 @@ pub good-not-empty : judged [] ≡ Good → ⊥
 good-not-empty good = let long = three [] (good-long [] good) in omega arith
 
 -- a lent body that is good has at most 255 bytes, and is good at its end
-pub lent-at-most : (body : List ℕ) → judgedLent body ≡ Good → length body ≤ 255
+pub lent-at-most : (body : List ℕ) → judgedLent body ≡ Good → length body ≤ longest
 unfolding judgedLent
-lent-at-most body good = ltb-false 255 (length body) (test-passed (ltb 255 (length body)) _ _ good)
+lent-at-most body good = ltb-false longest (length body) (test-passed (ltb longest (length body)) _ _ good)
 
 pub lent-good : (body : List ℕ) → judgedLent body ≡ Good → judged body ≡ Good
-unfolding judgedLent
-lent-good body good = rest-passed (ltb 255 (length body)) _ _ good
+unfolding judgedLent judged
+lent-good body good = rest-passed (ltb longest (length body)) _ _ good
 
 -- the first byte is never FF or FE
 pub first-low : (body : List ℕ) → judged body ≡ Good → getD body 0 0 < 0xFE
@@ -61,7 +61,7 @@ first-low body good = by-first (eqb (getD body 0 0) 0) refl
     by-first : (test : Bool) → eqb (getD body 0 0) 0 ≡ test → getD body 0 0 < 0xFE
     by-first true zero-first = omega (arith, eqb-true (getD body 0 0) 0 zero-first)
     by-first false other =
-        omega (arith, leb-true (getD body 0 0) 0x9F (both-right (leb 1 (getD body 0 0)) (leb (getD body 0 0) 0x9F) (rw other at (good-address body good))))
+        omega (arith, leb-true (getD body 0 0) highestShort (both-right (leb 1 (getD body 0 0)) _ (rw other at (good-address body good))))
 
 -- ---- put together and taken apart
 
@@ -69,7 +69,7 @@ module _ (code : ℕ) (data′ : List ℕ) where
   pub address-back : (address : Address) → legal address ≡ true → addressIn (bodyOf address code data′) ≡ address
   unfolding legal addressIn bodyOf unchecked addressBytes
   address-back (Short byte) is-legal =
-      let above = leb-true 1 byte (both-left (leb 1 byte) (leb byte 0x9F) is-legal) in
+      let above = leb-true 1 byte (both-left (leb 1 byte) _ is-legal) in
       rw (ne-eqb byte 0 (λ (e : byte ≡ 0). omega arith))
   address-back (Serial serial) is-legal =
       let fits = leb-true serial 16_777_215 is-legal in
@@ -109,7 +109,7 @@ module _ (code : ℕ) (data′ : List ℕ) where
   long : (address : Address) → legal address ≡ true → short (bodyOf address code data′) ≡ false
   unfolding legal bodyOf unchecked addressBytes addressLength
   long (Short byte) is-legal =
-      let above = leb-true 1 byte (both-left (leb 1 byte) (leb byte 0x9F) is-legal) in
+      let above = leb-true 1 byte (both-left (leb 1 byte) _ is-legal) in
       not-short (bodyOf (Short byte) code data′) (omega (arith, body-length (Short byte) code data′)) (λ (e : byte ≡ 0). omega arith)
   long (Serial serial) is-legal =
       not-short (bodyOf (Serial serial) code data′) (omega (arith, body-length (Serial serial) code data′)) (λ _. omega (arith, body-length (Serial serial) code data′))

@@ -8,9 +8,13 @@ use lib.Dec.{leb, eqb}
 use Rattle.body.specs.declared.addresses.Address.{Address}
 use Rattle.body.specs.declared.addresses.Address.the-variants.{Short, Serial}
 
+-- "one byte 01 to 9F (002)"
+abbrev pub highestShort : ℕ
+highestShort = 0x9F
+
 -- the one rule of a legal address, for reading and for writing
 unfoldable pub legal : Address → Bool
-legal (Short address) = leb 1 address && leb address 0x9F
+legal (Short address) = leb 1 address && leb address highestShort
 legal (Serial serial) = leb serial 16_777_215
 
 -- an address as it stands on the wire

@@ -17,6 +17,10 @@ use Rattle.body.specs.declared.bodies.Opened.{Opened}
 use Rattle.body.specs.declared.bodies.Opened.the-variants as opened-as
 use Rattle.body.specs.Addresses.{legal, addressBytes, addressIn, addressLength}
 
+-- "It has at most 255 bytes."
+abbrev pub longest : ℕ
+longest = 255
+
 -- address, operation code, data
 unfoldable pub unchecked : Address → ℕ → List ℕ → List ℕ
 unchecked address code data′ = addressBytes address ++ (code ∷ data′)
@@ -46,10 +50,10 @@ judged body = judgedIf (checkRight body) body
 
 -- a body that was lent: 2 ahead of them
 abbrev pub judgedLentIf : Bool → List ℕ → Verdict
-judgedLentIf right body = refuseIf (ltb 255 (length body)) BodyLong (judgedIf right body)
+judgedLentIf right body = refuseIf (ltb longest (length body)) BodyLong (judgedIf right body)
 
 unfoldable pub judgedLent : List ℕ → Verdict
-judgedLent body = refuseIf (ltb 255 (length body)) BodyLong (judged body)
+judgedLent body = judgedLentIf (checkRight body) body
 
 -- where in a body code and data stand
 unfoldable pub codeIn : List ℕ → ℕ
@@ -70,5 +74,5 @@ opening (Refused why) parts = opened-as.Refused why
 unfoldable pub openedIf : Bool → List ℕ → Opened
 openedIf right body = opening (judgedLentIf right body) (partsOf body)
 
-unfoldable pub openedBody : List ℕ → Opened
-openedBody body = opening (judgedLent body) (partsOf body)
+abbrev pub openedBody : List ℕ → Opened
+openedBody body = openedIf (checkRight body) body

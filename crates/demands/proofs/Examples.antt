@@ -9,12 +9,12 @@ use Rattle.line.specs.Listener.{tick, keep, ended, hearIn, hear, andThen, event
 use Rattle.weight.specs.Bytes.{legal as legalReading, readOf}
 use Rattle.weight.specs.Tenths.{valueOf}
 use Rattle.codes.specs.Table.{lineIn, lineOf, rowOf}
-use Rattle.message.specs.Fields.{readIn}
-use Rattle.message.specs.Meaning.{lowFirst}
-use Rattle.message.specs.Judging.{judgedData, judgedMessage}
-use Rattle.message.specs.Reading.{messageOf, judgedBody, readMessage}
+use Rattle.meaning.specs.Fields.{readIn}
+use Rattle.meaning.specs.Meaning.{lowFirst}
+use Rattle.meaning.specs.Judging.{judgedCode, judgedData, judgedMessage}
+use Rattle.message.specs.Reading.{messageOf, readMessage, readIf}
 use Rattle.demands.specs.Examples.{JudgedExamples}
 
 pub judged-examples : JudgedExamples
-unfolding shiftIn feedBits feedByte feedAll received legal addressIn addressLength short judged judgedLent codeIn dataIn stuffedByte stuffed framed tick keep ended hearIn hear andThen events legalReading readOf valueOf readIn lineIn lineOf rowOf lowFirst judgedData judgedMessage messageOf judgedBody readMessage
+unfolding shiftIn feedBits feedByte feedAll received legal addressIn addressLength short judged judgedLent codeIn dataIn stuffedByte stuffed framed tick keep ended hearIn hear andThen events legalReading readOf valueOf readIn lineIn lineOf rowOf lowFirst judgedData judgedMessage judgedCode messageOf readIf readMessage
 judged-examples = record { read = refl; written = refl }

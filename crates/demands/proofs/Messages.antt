@@ -17,16 +17,18 @@ use Rattle.room.specs.Writing.{wrote}
 use Rattle.body.specs.Addresses.{addressIn}
 use Rattle.body.specs.Body.{bodyOf, codeIn, dataIn}
 use Rattle.frame.specs.Stuffing.{framed, needed}
+use Rattle.frame.specs.Writing.{judgedLength, judgedRoom}
 use Rattle.codes.specs.declared.table.Role.{Role}
 use Rattle.message.specs.declared.reading.Message.{Message}
 use Rattle.codes.specs.Table.{rowOf, inTable}
 use Rattle.codes.specs.Lengths.{lengthOf, lengthRight}
-use Rattle.message.specs.Fields.{fieldsRight}
-use Rattle.message.specs.Judging.{andThen, judgedData, judgedMessage}
-use Rattle.message.specs.Reading.{messageOf, judgedBody, receiving, readMessage, verdictOf}
+use Rattle.meaning.specs.Fields.{fieldsRight}
+use Rattle.meaning.specs.Judging.{judgedCode, andThen, judgedData, judgedMessage}
+use Rattle.message.specs.Reading.{messageOf, receiving, verdictOf}
 use Rattle.message.specs.Writing.{judgedMessageWrite, writtenMessage}
+use Rattle.message.proofs.Checked.{in-order, read-so}
 use Rattle.message.proofs.RoundTrip.{body-back, again, written-lent, read-back, data-stand}
-use Rattle.demands.specs.Messages.{bytesOf, WrittenReadsBack, AcceptedWritesBack, FirstToFail, AsTheTableSays, ReadingRefuses, lengthAndRoom, WritingRefuses}
+use Rattle.demands.specs.Messages.{bytesOf, WrittenReadsBack, AcceptedWritesBack, FirstToFail, AsTheTableSays, ReadingRefuses, WritingRefuses}
 use Rattle.demands.proofs.Corollaries.{reads-back}
 
 -- ---- written, then read
@@ -88,12 +90,12 @@ first-to-fail true true true after other =
 judged-then : (role : Role) (code : ℕ) (data′ : List ℕ) (after : Verdict)
     → andThen (judgedMessage role code data′) after
     ≡ chain (inTable (rowOf role code)) (lengthRight (lengthOf (rowOf role code)) data′) (fieldsRight (rowOf role code) data′) after
-unfolding judgedMessage judgedData chain
+unfolding judgedMessage judgedCode judgedData chain
 judged-then role code data′ after =
     by-tests (inTable (rowOf role code)) (lengthRight (lengthOf (rowOf role code)) data′) (fieldsRight (rowOf role code) data′)
   where
     by-tests : (known sized right : Bool)
-        → andThen (refuseIf (not known) CodeUnknown (refuseIf (not sized) LengthWrong (refuseIf (not right) FieldOutside Good))) after
+        → andThen (andThen (refuseIf (not known) CodeUnknown Good) (refuseIf (not sized) LengthWrong (refuseIf (not right) FieldOutside Good))) after
         ≡ refuseIf (not known) CodeUnknown (refuseIf (not sized) LengthWrong (refuseIf (not right) FieldOutside after))
     by-tests false sized right = refl
     by-tests true false right = refl
@@ -111,11 +113,10 @@ then-nothing Good message = refl
 then-nothing (Refused why) message = refl
 
 pub reading-refuses : ReadingRefuses
-unfolding readMessage judgedBody
 reading-refuses role body = record {
-  ahead = λ why refused. rw refused;
+  ahead = λ why refused. rw (read-so role body, in-order role body, refused);
   then = λ good.
-      rw (good, then-nothing (judgedMessage role (codeIn body) (dataIn body)) (messageOf role (addressIn body) (codeIn body) (dataIn body)))
+      rw (read-so role body, in-order role body, good, then-nothing (judgedMessage role (codeIn body) (dataIn body)) (messageOf role (addressIn body) (codeIn body) (dataIn body)))
       (by-the-table role (codeIn body) (dataIn body) Good (after-length-and-room false false));
 }
 
@@ -129,7 +130,7 @@ pub writing-refuses : WritingRefuses
 unfolding writtenMessage judgedMessageWrite
 writing-refuses role address code data′ room =
     let body = bodyOf address code data′ in
-    let after = lengthAndRoom body room in
+    let after = judgedLength body (judgedRoom body room) in
     record {
       ahead = λ illegal. rw illegal;
       then = λ is-legal.

@@ -1,7 +1,7 @@
 -- Shown: every refusal of the line, and every refusal of a body's message, has its record in the log.
 -- Why: each test of either refuses with one of 1 to 8, and those are the refusals that the log notes.
 use Prim.Native.Nat.{ℕ}
-use mathlib.Core.Path.{_≡_, refl, subst}
+use mathlib.Core.Path.{_≡_, _∙_, refl, sym, subst}
 use mathlib.Core.Bool.{Bool, true, false, not, cond}
 use mathlib.Core.List.{List, []}
 use lib.Dec.{ltb, eqb}
@@ -12,16 +12,17 @@ use Rattle.refusal.specs.declared.Verdict.the-variants.{Good, Refused}
 use Rattle.refusal.specs.Numbers.{numberOf, refuseIf}
 use Rattle.check_byte.specs.Register.{received}
 use Rattle.body.specs.Addresses.{legal, addressIn}
-use Rattle.body.specs.Body.{short, judged, judgedLent, codeIn, dataIn}
+use Rattle.body.specs.Body.{longest, short, judged, judgedLent, codeIn, dataIn}
 use Rattle.line.specs.Listener.{State, Heard, Listener, Step, seeking, delimited, inside, held, nothing, frame, refused, keep, ended, hearIn, hear, tick}
 use Rattle.codes.specs.declared.table.Role.{Role}
 use Rattle.codes.specs.Table.{rowOf, inTable}
 use Rattle.codes.specs.Lengths.{lengthOf, lengthRight}
-use Rattle.message.specs.Fields.{fieldsRight}
-use Rattle.message.specs.Judging.{andThen, judgedData, judgedMessage}
+use Rattle.meaning.specs.Fields.{fieldsRight}
+use Rattle.meaning.specs.Judging.{judgedCode, andThen, judgedData, judgedMessage}
 use Rattle.message.specs.declared.reading.Message.{Message}
 use Rattle.message.specs.declared.reading.Received.the-variants as received-as
-use Rattle.message.specs.Reading.{receiving, judgedBody, readMessage}
+use Rattle.message.specs.Reading.{receiving, judgedBody}
+use Rattle.message.proofs.Checked.{in-order, read-so}
 use Rattle.records.specs.Records.{lineStatus}
 use Rattle.weighing_log.specs.Hearing.{metRecord, recordOf}
 use Rattle.demands.specs.Noted.{IsNoted, LineRefusalsNoted, MessageRefusalsNoted}
@@ -51,27 +52,25 @@ judged-within body =
     refusing (short body) _ _ refl (refusing (not (eqb (received body) 0)) _ _ refl (refusing (not (legal (addressIn body))) _ _ refl tt))
 
 lent-within : (body : List ℕ) → Within (judgedLent body)
-unfolding judgedLent
-lent-within body = refusing (ltb 255 (length body)) _ _ refl (judged-within body)
+unfolding judgedLent judged
+lent-within body = refusing (ltb longest (length body)) _ _ refl (judged-within body)
 
 message-within : (role : Role) (code : ℕ) (data′ : List ℕ) → Within (judgedMessage role code data′)
-unfolding judgedMessage judgedData
+unfolding judgedMessage judgedCode judgedData
 message-within role code data′ =
-    refusing (not (inTable (rowOf role code))) _ _ refl
+    one-then (judgedCode role code) _ (refusing (not (inTable (rowOf role code))) _ _ refl tt)
     (refusing (not (lengthRight (lengthOf (rowOf role code)) data′)) _ _ refl (refusing (not (fieldsRight (rowOf role code) data′)) _ _ refl tt))
 
 body-within : (role : Role) (body : List ℕ) → Within (judgedBody role body)
-unfolding judgedBody
-body-within role body = one-then (judgedLent body) _ (lent-within body) (message-within role (codeIn body) (dataIn body))
+body-within role body = rw (in-order role body) (one-then (judgedLent body) _ (lent-within body) (message-within role (codeIn body) (dataIn body)))
 
 receiving-refused : (verdict : Verdict) (message : Message) (why : Refusal) → receiving verdict message ≡ received-as.Refused why → verdict ≡ Refused why
 receiving-refused Good message why e = cc
 receiving-refused (Refused other) message why e = cc
 
 pub message-refusals-noted : MessageRefusalsNoted
-unfolding readMessage
 message-refusals-noted time role body why e =
-    is-noted time why (subst Within (receiving-refused (judgedBody role body) _ why e) (body-within role body))
+    is-noted time why (subst Within (receiving-refused (judgedBody role body) _ why (sym (read-so role body) ∙ e)) (body-within role body))
 
 -- ---- events that refuse with one of 1 to 8
 

@@ -18,7 +18,7 @@ use Rattle.room.specs.declared.Written.{Written}
 use Rattle.room.specs.Writing.{wrote}
 use Rattle.body.specs.declared.addresses.Address.{Address}
 use Rattle.body.specs.Addresses.{legal}
-use Rattle.body.specs.Body.{bodyOf, judgedLent}
+use Rattle.body.specs.Body.{bodyOf, judged, judgedLent}
 use Rattle.frame.specs.Stuffing.{framed}
 use Rattle.frame.specs.Writing.{judgedFields, judgedWrite, writtenFrame}
 use Rattle.body.proofs.Rebuilding.{made-good}
@@ -144,7 +144,7 @@ verdict-of (refusal-as.Refused why) bytes room = refl
 
 -- a frame that was written has a good body
 written-good : (address : Address) (code : ℕ) (data′ room : List ℕ) → judgedWrite address code data′ room ≡ Good → judgedLent (bodyOf address code data′) ≡ Good
-unfolding judgedWrite judgedFields judgedLent
+unfolding judgedWrite judgedFields judgedLent judged
 written-good address code data′ room good =
     let is-legal = not-false _ (test-passed (not (legal address)) _ _ good) in
     let short = test-passed (ltb 255 (length (bodyOf address code data′))) _ _ (rest-passed (not (legal address)) _ _ good) in

@@ -19,13 +19,14 @@ use Rattle.body.specs.declared.addresses.Address.{Address}
 use Rattle.body.specs.Addresses.{legal}
 use Rattle.body.specs.Body.{bodyOf, judgedLent, codeIn, dataIn}
 use Rattle.frame.specs.Stuffing.{framed, needed}
+use Rattle.frame.specs.Writing.{judgedLength, judgedRoom}
 use Rattle.line.specs.Listener.{frame, fresh, events}
 use Rattle.codes.specs.declared.table.Role.{Role}
 use Rattle.message.specs.declared.reading.Message.{Message}
 use Rattle.message.specs.declared.reading.Received.the-variants as received-as
 use Rattle.codes.specs.Table.{rowOf, inTable}
 use Rattle.codes.specs.Lengths.{lengthOf, lengthRight}
-use Rattle.message.specs.Fields.{fieldsRight}
+use Rattle.meaning.specs.Fields.{fieldsRight}
 use Rattle.message.specs.Reading.{messageOf, readMessage, verdictOf}
 use Rattle.message.specs.Writing.{judgedMessageWrite, writtenMessage}
 
@@ -84,13 +85,10 @@ abbrev pub ReadingRefuses : Type 0
 ReadingRefuses = (role : Role) (body : List ℕ) → ReadByTheTable role body
 
 -- writing, behind 5; 2 and 9 come after
-abbrev pub lengthAndRoom : List ℕ → List ℕ → Verdict
-lengthAndRoom body room = refuseIf (ltb 255 (length body)) BodyLong (refuseIf (ltb (length room) (needed body)) RoomShort Good)
-
 pub record WrittenByTheTable (role : Role) (address : Address) (code : ℕ) (data′ room : List ℕ) : Type 0 where
   pub ahead : legal address ≡ false → writtenMessage role address code data′ room .answer .verdict ≡ Refused AddressIllegal
   pub then : legal address ≡ true
-      → AsTheTableSays role code data′ (lengthAndRoom (bodyOf address code data′) room) (writtenMessage role address code data′ room .answer .verdict)
+      → AsTheTableSays role code data′ (judgedLength (bodyOf address code data′) (judgedRoom (bodyOf address code data′) room)) (writtenMessage role address code data′ room .answer .verdict)
 
 abbrev pub WritingRefuses : Type 0
 WritingRefuses = (role : Role) (address : Address) (code : ℕ) (data′ room : List ℕ) → WrittenByTheTable role address code data′ room

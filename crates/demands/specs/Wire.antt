@@ -10,7 +10,7 @@ use lib.ListN.{length, take, drop, replicate}
 use lib.Seq.{slice}
 use lib.Dec.{eqb}
 use Rattle.refusal.specs.declared.Verdict.the-variants.{Good}
-use Rattle.body.specs.Body.{judged, judgedLent}
+use Rattle.body.specs.Body.{longest, judged, judgedLent}
 use Rattle.frame.specs.Stuffing.{stuffed, framed, needed}
 use Rattle.line.specs.Listener.{Heard, nothing, frame, refused, Listener, fresh, events, after}
 
@@ -24,7 +24,7 @@ pub record Sent : Type 0 where
 -- Nothing is asked of a body's numbers beyond that: bytes are among them.
 pub record Proper (sent : Sent) : Type 0 where
   pub good : judged (sent .body) ≡ Good
-  pub most : length (sent .body) ≤ 255
+  pub most : length (sent .body) ≤ longest
   pub ahead : 1 ≤ sent .ahead
   pub behind : 2 ≤ sent .behind
 

@@ -7,9 +7,9 @@ use mathlib.Core.List.{List, [], _∷_}
 use types.Run.{OneOf, miss}
 use denote.Enum.Declared.{tagOf}
 use Rattle.body.specs.declared.addresses.Address.{Address}
-use Rattle.message.specs.declared.meaning.What.{What}
-use Rattle.message.specs.declared.meaning.What.the-variants as says
-use Rattle.message.proofs.meaning.What.{the-type}
+use Rattle.meaning.specs.declared.meaning.What.{What}
+use Rattle.meaning.specs.declared.meaning.What.the-variants as says
+use Rattle.meaning.proofs.meaning.What.{the-type}
 use Rattle.line.specs.declared.places.Event.{Event}
 use Rattle.line.specs.declared.places.Event.the-variants as event-as
 use Rattle.line.proofs.places.Event as event-is

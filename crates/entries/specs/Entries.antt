@@ -6,8 +6,8 @@ use Rattle.body.specs.declared.addresses.Address.{Address}
 use Rattle.line.specs.Listener.{Heard, nothing, frame, refused}
 use Rattle.weight.specs.Bytes.{legal}
 use Rattle.codes.specs.declared.table.Role.the-variants.{Reply}
-use Rattle.message.specs.declared.meaning.What.{What}
-use Rattle.message.specs.declared.meaning.What.the-variants as says
+use Rattle.meaning.specs.declared.meaning.What.{What}
+use Rattle.meaning.specs.declared.meaning.What.the-variants as says
 use Rattle.message.specs.declared.reading.Received.{Received}
 use Rattle.message.specs.declared.reading.Received.the-variants as received-as
 use Rattle.message.specs.Reading.{readIf, readMessage}

@@ -4,7 +4,7 @@ use codes::Load;
 use codes::Role;
 use line::Event;
 use message::Received;
-use message::What;
+use meaning::What;
 use message::read;
 use message::read_checked;
 use refusal::Refusal;

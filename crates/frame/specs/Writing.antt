@@ -13,15 +13,24 @@ use Rattle.body.specs.declared.addresses.Address.{Address}
 use Rattle.frame.specs.declared.writing.Needed.{Needed}
 use Rattle.frame.specs.declared.writing.Needed.the-variants as needed-as
 use Rattle.body.specs.Addresses.{legal}
-use Rattle.body.specs.Body.{bodyOf}
+use Rattle.body.specs.Body.{longest, bodyOf}
 use Rattle.frame.specs.Stuffing.{framed, needed}
 
--- 5, then 2, then whatever comes after
+-- 5, then whatever comes after
+abbrev pub judgedAddress : Address → Verdict → Verdict
+judgedAddress address after = refuseIf (not (legal address)) AddressIllegal after
+
+-- 2, then whatever comes after
+abbrev pub judgedLength : List ℕ → Verdict → Verdict
+judgedLength body after = refuseIf (ltb longest (length body)) BodyLong after
+
+-- 9
+abbrev pub judgedRoom : List ℕ → List ℕ → Verdict
+judgedRoom body room = refuseIf (ltb (length room) (needed body)) RoomShort Good
+
+-- 5, 2, then whatever comes after
 unfoldable pub judgedFields : Address → ℕ → List ℕ → Verdict → Verdict
-judgedFields address code data′ after =
-    refuseIf (not (legal address)) AddressIllegal
-    (refuseIf (ltb 255 (length (bodyOf address code data′))) BodyLong
-    after)
+judgedFields address code data′ after = judgedAddress address (judgedLength (bodyOf address code data′) after)
 
 -- the room rule's number, without writing
 abbrev pub needing : Verdict → ℕ → Needed
@@ -33,10 +42,7 @@ neededFor address code data′ = needing (judgedFields address code data′ Good
 
 -- 5, 2, 9
 unfoldable pub judgedWrite : Address → ℕ → List ℕ → List ℕ → Verdict
-judgedWrite address code data′ room =
-    judgedFields address code data′
-    (refuseIf (ltb (length room) (needed (bodyOf address code data′))) RoomShort
-    Good)
+judgedWrite address code data′ room = judgedFields address code data′ (judgedRoom (bodyOf address code data′) room)
 
 -- the frame in the first bytes of the room, every other byte as it stood; refused, every byte as it stood
 unfoldable pub writtenFrame : Address → ℕ → List ℕ → List ℕ → Left

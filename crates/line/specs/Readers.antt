@@ -7,6 +7,7 @@ use mathlib.Core.List.{List, [], _∷_}
 use lib.ListN.{length, take, replicate}
 use lib.Dec.{ltb, eqb}
 use Rattle.room.specs.Laying.{over}
+use Rattle.body.specs.Body.{longest}
 use Rattle.line.specs.declared.places.WirePlace.{WirePlace}
 use Rattle.line.specs.declared.places.BodyPlace.{BodyPlace}
 use Rattle.line.specs.declared.places.Phase.{Phase}
@@ -32,7 +33,7 @@ stateOf Held kept = held kept
 -- "A state handed in with more than 255 kept bytes is treated as fresh, wire count 0."
 unfoldable pub listening : Place → List ℕ → Listener
 listening place body =
-    cond (ltb 255 (place .kept .0)) fresh
+    cond (ltb longest (place .kept .0)) fresh
     (record { state = stateOf (place .phase) (take (place .kept .0) body); wire = place .wire .0 })
 
 abbrev pub view : Reader → Listener
@@ -106,7 +107,7 @@ abbrev pub freshPlace : Place
 freshPlace = placeOf fresh
 
 abbrev pub freshReader : Reader
-freshReader = record { place = freshPlace; body = replicate 255 0 }
+freshReader = record { place = freshPlace; body = replicate longest 0 }
 
 -- the first event that the paper's listener gives on a list of bytes
 abbrev pub orElse : Heard → Heard → Heard
@@ -130,7 +131,7 @@ pub record Feeds (reader : Reader) (block : List ℕ) (answered : Fed) : Type 0 
 -- an array of 255 bytes has 255: where a list had not, nothing would be taken
 unfoldable pub fedLent : Place → List ℕ → List ℕ → Fed
 fedLent place block before =
-    cond (eqb (length before) 255) (fed (record { place = place; body = before }) block)
+    cond (eqb (length before) longest) (fed (record { place = place; body = before }) block)
     (record { reader = record { place = place; body = before }; event = Nothing; used = 0 })
 
 abbrev pub wentOf : Fed → Went
@@ -139,7 +140,7 @@ wentOf answer = record { place = answer .reader .place; event = answer .event; u
 pub record Listens (place : Place) (block before : List ℕ) (answered : Went) (left : List ℕ) : Type 0 where
   pub answer : answered ≡ wentOf (fedLent place block before)
   pub body : left ≡ fedLent place block before .reader .body
-  pub told : length before ≡ 255 → heardAs (answered .event) left ≡ firstHeard (listening place before) block
+  pub told : length before ≡ longest → heardAs (answered .event) left ≡ firstHeard (listening place before) block
   pub inside : answered .used ≤ length block
-  pub forward : length before ≡ 255 → 0 < length block → 0 < answered .used
-  pub full : length before ≡ 255 → length left ≡ 255
+  pub forward : length before ≡ longest → 0 < length block → 0 < answered .used
+  pub full : length before ≡ longest → length left ≡ longest

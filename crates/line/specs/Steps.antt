@@ -5,6 +5,7 @@ use mathlib.Core.Bool.{cond}
 use mathlib.Core.List.{List}
 use lib.Dec.{ltb}
 use Rattle.room.specs.Laying.{over}
+use Rattle.body.specs.Body.{longest}
 use Rattle.line.specs.declared.places.Place.{Place}
 use Rattle.line.specs.declared.places.Moved.{Moved}
 use Rattle.line.specs.Listener.{Step}
@@ -16,7 +17,7 @@ movedOf step = record { place = placeOf (step .next); event = eventOf (step .eve
 
 -- the place that a place handed in is treated as
 abbrev pub soundPlace : Place → Place
-soundPlace place = cond (ltb 255 (place .kept .0)) freshPlace place
+soundPlace place = cond (ltb longest (place .kept .0)) freshPlace place
 
 -- a promise: a step, as a place with its event, and the array beside it
 pub record Keeps (step : Step) (before : List ℕ) (answered : Moved) (left : List ℕ) : Type 0 where

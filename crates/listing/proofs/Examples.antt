@@ -14,9 +14,9 @@ use Rattle.body.specs.Body.{short, judged, judgedLent, codeIn, dataIn}
 use Rattle.line.specs.Listener.{fresh, events, andThen, hear, hearIn, keep, ended, tick}
 use Rattle.codes.specs.declared.table.Load.the-variants.{Net}
 use Rattle.codes.specs.Table.{lineIn, lineOf as rowsOf, rowOf}
-use Rattle.message.specs.Fields.{readIn}
-use Rattle.message.specs.Judging.{judgedData, judgedMessage}
-use Rattle.message.specs.Reading.{messageOf, judgedBody, readMessage}
+use Rattle.meaning.specs.Fields.{readIn}
+use Rattle.meaning.specs.Judging.{judgedCode, judgedData, judgedMessage}
+use Rattle.message.specs.Reading.{messageOf, readMessage, readIf}
 use Rattle.entries.specs.declared.entries.Entry.{Entry}
 use Rattle.entries.specs.declared.entries.Entry.the-variants.{Nothing, Weight, Message, Refused}
 use Rattle.listing.specs.Texts.{spelt, decimalIn, decimal}
@@ -34,7 +34,7 @@ capture =
 pub four-lines :
     listing (events fresh capture)
     ≡ spelt "1 weight gross 1 + 000251 1 0 0\n2 weight net 1 - 000005 1 1 0\n3 refused 4\ntotal 3 weights 2 refused 1\n"
-unfolding listing entryHeard decimal decimalIn events andThen hear hearIn keep ended tick readMessage judgedBody messageOf judgedMessage judgedData rowOf rowsOf lineIn readIn readOf judgedLent judged short received feedAll feedByte feedBits shiftIn legal addressIn addressLength codeIn dataIn
+unfolding listing entryHeard decimal decimalIn events andThen hear hearIn keep ended tick readMessage readIf messageOf judgedMessage judgedCode judgedData rowOf rowsOf lineIn readIn readOf judgedLent judged short received feedAll feedByte feedBits shiftIn legal addressIn addressLength codeIn dataIn
 four-lines = refl
 
 -- a silent capture

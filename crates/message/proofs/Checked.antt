@@ -7,13 +7,24 @@ use mathlib.Core.List.{List}
 use borrow.Author.Tests.{eq-eqb}
 use Rattle.refusal.specs.declared.Verdict.the-variants.{Good}
 use Rattle.check_byte.specs.Register.{received}
-use Rattle.body.specs.Body.{checkRight, judged, judgedLent}
+use Rattle.body.specs.Body.{checkRight, judged, judgedLent, codeIn, dataIn}
+use Rattle.body.specs.Addresses.{addressIn}
+use Rattle.meaning.specs.Judging.{andThen, judgedMessage}
 use Rattle.body.proofs.Rebuilding.{good-check}
 use Rattle.codes.specs.declared.table.Role.{Role}
-use Rattle.message.specs.Reading.{judgedBody, readIf, readMessage}
+use Rattle.message.specs.Reading.{messageOf, judgedBody, receiving, readIf, readMessage}
+
+-- the paper's order, spelled out
+pub in-order : (role : Role) (body : List ℕ) → judgedBody role body ≡ andThen (judgedLent body) (judgedMessage role (codeIn body) (dataIn body))
+unfolding judgedBody judgedLent
+in-order role body = refl
+
+pub read-so : (role : Role) (body : List ℕ) → readMessage role body ≡ receiving (judgedBody role body) (messageOf role (addressIn body) (codeIn body) (dataIn body))
+unfolding readMessage readIf judgedBody
+read-so role body = refl
 
 pub by-its-check : (role : Role) (body : List ℕ) → readIf (checkRight body) role body ≡ readMessage role body
-unfolding readMessage judgedBody judgedLent judged readIf
+unfolding readMessage
 by-its-check role body = refl
 
 pub handed-out : (role : Role) (body : List ℕ) → judged body ≡ Good → readIf true role body ≡ readMessage role body

@@ -1,34 +1,30 @@
--- Shown: what messages of the paper say and which are refused: bodies of E3, E5 and E6, and each rule that can be read in two ways.
+-- Shown: what bodies of the paper say and which are refused: E3, E5, E6, and the longest texts.
 -- Why: both columns of each table compute to the same.
 use Prim.Native.Nat.{ℕ}
 use mathlib.Core.Path.{_≡_, refl}
 use mathlib.Core.List.{List, [], _∷_, map}
 use lib.ListN.{replicate}
 use Rattle.refusal.specs.declared.Refusal.{Refusal}
-use Rattle.refusal.specs.declared.Refusal.the-variants.{BodyShort, BodyLong, CheckWrong, AddressIllegal, CodeUnknown, LengthWrong, FieldOutside, RoomShort}
+use Rattle.refusal.specs.declared.Refusal.the-variants.{BodyShort, BodyLong, CheckWrong, AddressIllegal, LengthWrong, RoomShort}
 use Rattle.refusal.specs.declared.Verdict.the-variants as verdict-as
 use Rattle.check_byte.specs.Register.{received, checkOf, feedAll, feedByte, feedBits, shiftIn}
 use Rattle.weight.specs.Bytes.{readOf}
 use Rattle.weight.proofs.Examples.{e3-reading}
-use Rattle.inputs.specs.On.{inputsOn, sumOfBits}
 use Rattle.body.specs.declared.addresses.Address.{Address}
 use Rattle.body.specs.declared.addresses.Address.the-variants.{Short, Serial}
 use Rattle.body.specs.Addresses.{legal, addressBytes, addressIn, addressLength}
-use Rattle.body.specs.Body.{unchecked, bodyOf, short, judged, judgedLent, codeIn, dataIn}
+use Rattle.body.specs.Body.{unchecked, bodyOf, short, codeIn, dataIn}
 use Rattle.frame.specs.Stuffing.{countFF, needed}
-use Rattle.codes.specs.declared.table.Role.{Role}
 use Rattle.codes.specs.declared.table.Role.the-variants.{Request, Reply}
 use Rattle.codes.specs.declared.table.Load.the-variants.{Gross}
-use Rattle.message.specs.declared.meaning.What.the-variants as says
-use Rattle.message.specs.declared.meaning.Told.{Told}
-use Rattle.message.specs.declared.meaning.Told.the-variants.{What, Refused}
+use Rattle.meaning.specs.declared.meaning.What.the-variants as says
 use Rattle.message.specs.declared.reading.Received.{Received}
 use Rattle.message.specs.declared.reading.Received.the-variants as received-as
 use Rattle.codes.specs.Table.{lineIn, lineOf, rowOf}
-use Rattle.message.specs.Fields.{readIn}
-use Rattle.message.specs.Meaning.{lowFirst, onIn}
-use Rattle.message.specs.Judging.{judgedData, judgedMessage, told}
-use Rattle.message.specs.Reading.{messageOf, judgedBody, readMessage}
+use Rattle.meaning.specs.Fields.{readIn}
+use Rattle.meaning.specs.Meaning.{lowFirst}
+use Rattle.meaning.specs.Judging.{judgedCode, judgedData, judgedMessage}
+use Rattle.message.specs.Reading.{messageOf, readIf, readMessage}
 use Rattle.message.specs.Writing.{judgedMessageWrite}
 
 -- ---- bodies, read as replies
@@ -60,53 +56,8 @@ bodies =
     ∷ []
 
 pub bodies-read : map (λ (heard : Heard). readMessage Reply (heard .body)) bodies ≡ map (λ (heard : Heard). heard .answer) bodies
-unfolding readMessage judgedBody messageOf judgedMessage judgedData rowOf lineOf lineIn readIn readOf lowFirst judgedLent judged short received checkOf feedAll feedByte feedBits shiftIn legal addressIn addressLength codeIn dataIn
+unfolding readMessage readIf messageOf judgedMessage judgedCode judgedData rowOf lineOf lineIn readIn readOf lowFirst short received checkOf feedAll feedByte feedBits shiftIn legal addressIn addressLength codeIn dataIn
 bodies-read = refl
-
--- ---- code and data, the data at place 2 of a body
-
-pub record Case : Type 0 where
-  pub role : Role
-  pub code : ℕ
-  pub data′ : List ℕ
-  pub answer : Told
-
-abbrev tells : Role → ℕ → List ℕ → Told → Case
-tells role code data′ answer = record { role = role; code = code; data′ = data′; answer = answer }
-
-abbrev pub cases : List Case
-cases =
-    tells Request 0xC3 [] (What says.Nothing)
-    -- 6: an error is not asked, and 002's reply to an unknown code is not in the table
-    ∷ tells Request 0xEE (0x01 ∷ []) (Refused CodeUnknown)
-    ∷ tells Reply 0xFD [] (Refused CodeUnknown)
-    -- a status has its top bit 0
-    ∷ tells Reply 0xBF (0x7F ∷ []) (What (says.Status 0x7F))
-    ∷ tells Reply 0xBF (0x80 ∷ []) (Refused FieldOutside)
-    -- a half above 9
-    ∷ tells Reply 0xC2 (0x0A ∷ 0x00 ∷ 0x00 ∷ 0x00 ∷ []) (Refused FieldOutside)
-    ∷ tells Reply 0xC4 (0x01 ∷ 0x00 ∷ 0xFF ∷ 0x80 ∷ []) (What (says.Inputs 0x80FF0001 10))
-    -- NUM 1F, 20 or 21, in both roles; a request has one byte
-    ∷ tells Request 0xC6 (0x21 ∷ []) (What (says.Number 0x21))
-    ∷ tells Request 0xC6 (0x22 ∷ []) (Refused FieldOutside)
-    ∷ tells Reply 0xC6 (0x1F ∷ 0x02 ∷ 0x61 ∷ 0x62 ∷ []) (What (says.Text 0x1F 4 6))
-    ∷ tells Reply 0xC6 (0x01 ∷ 0x00 ∷ []) (Refused FieldOutside)
-    -- seven bytes with EVENT 70 are 8, any other length is 7
-    ∷ tells Reply 0xC7 (0x02 ∷ 0x31 ∷ 0x32 ∷ 0x33 ∷ 0x34 ∷ 0x35 ∷ 0x36 ∷ []) (What (says.Event 0x02 3 9))
-    ∷ tells Reply 0xC7 (0x70 ∷ 0x31 ∷ 0x32 ∷ 0x33 ∷ 0x34 ∷ 0x35 ∷ 0x36 ∷ []) (Refused FieldOutside)
-    ∷ tells Reply 0xC7 (0x70 ∷ 0x31 ∷ 0x32 ∷ 0x33 ∷ 0x34 ∷ 0x35 ∷ []) (Refused LengthWrong)
-    -- 40 bits, unsigned
-    ∷ tells Reply 0xCC (0xFF ∷ 0x00 ∷ 0x00 ∷ 0x00 ∷ 0x80 ∷ []) (What (says.Adc 549_755_814_143))
-    -- a text may be empty; a wrong count is 7 whatever NUM is; under two bytes is 7
-    ∷ tells Request 0xD2 (0xE0 ∷ 0x00 ∷ []) (What (says.Text 0xE0 4 4))
-    ∷ tells Request 0xD2 (0x04 ∷ 0x00 ∷ []) (Refused FieldOutside)
-    ∷ tells Request 0xD2 (0x04 ∷ 0x01 ∷ []) (Refused LengthWrong)
-    ∷ tells Request 0xD2 (0x03 ∷ []) (Refused LengthWrong)
-    ∷ []
-
-pub cases-told : map (λ (case : Case). told (case .role) (case .code) 2 (case .data′)) cases ≡ map (λ (case : Case). case .answer) cases
-unfolding told judgedMessage judgedData rowOf lineOf lineIn readIn readOf lowFirst onIn inputsOn sumOfBits
-cases-told = refl
 
 -- ---- the longest text: 250 characters with a short address, 247 with a serial. With no room at all, a message that is not too long is 9.
 
@@ -131,5 +82,5 @@ texts =
 
 pub texts-judged : map (λ (text : Long). judgedMessageWrite Request (text .address) 0xD2 (0x01 ∷ text .count ∷ replicate (text .count) 0x41) []) texts
     ≡ map (λ (text : Long). verdict-as.Refused (text .answer)) texts
-unfolding judgedMessageWrite judgedMessage judgedData rowOf lineOf lineIn legal bodyOf unchecked addressBytes needed countFF checkOf feedAll feedByte feedBits shiftIn
+unfolding judgedMessageWrite judgedMessage judgedCode judgedData rowOf lineOf lineIn legal bodyOf unchecked addressBytes needed countFF checkOf feedAll feedByte feedBits shiftIn
 texts-judged = refl

@@ -6,7 +6,6 @@ use mathlib.Core.Bool.{Bool, false}
 use mathlib.Core.List.{List, [], _∷_}
 use native.Mathlib.Nat.{sub-zero, zero-sub, suc-sub-suc}
 use native.Mathlib.Omega.{arith}
-use borrow.Author.Tests.{ltb-false}
 use lib.Dec.{ltb}
 use lib.ListN.{length, take, drop}
 use lib.Seq.{slice, length-slice, take-nil, drop-nil}
@@ -20,11 +19,11 @@ use Rattle.body.specs.Addresses.{addressIn, addressLength}
 use Rattle.body.specs.Body.{short, judgedLentIf, codeIn, dataIn, partsOf, opening, openedIf}
 use Rattle.body.proofs.Shortness.{address-inside}
 use Rattle.codes.specs.declared.table.Role.{Role}
-use Rattle.message.specs.declared.meaning.What.{What}
-use Rattle.message.specs.declared.meaning.Told.the-variants as told-as
+use Rattle.meaning.specs.declared.meaning.What.{What}
+use Rattle.meaning.specs.declared.meaning.Told.the-variants as told-as
 use Rattle.message.specs.declared.reading.Message.{Message}
 use Rattle.message.specs.declared.reading.Received.the-variants as received-as
-use Rattle.message.specs.Judging.{judgedMessage, telling, told}
+use Rattle.meaning.specs.Judging.{judgedMessage, telling, told}
 use Rattle.message.specs.Reading.{messageOf, readIf}
 
 -- ---- what an answer tells of its verdict
@@ -94,10 +93,11 @@ module _ (right : Bool) (body : List ℕ) (parts : Parts) (opened : openedIf rig
   inside : addressLength (addressIn body) + 2 ≤ length body
   inside = address-inside body long
 
-  -- its data stand in it
-  pub from-small : parts .from ≤ 255
-  from-small = omega (arith, from-is, inside, ltb-false 255 (length body) (test-passed (ltb 255 (length body)) _ _ was-good))
+  address-is : parts .address ≡ addressIn body
+  unfolding partsOf
+  address-is = ap (λ (p : Parts). p .address) parts-are
 
+  -- its data stand in it
   pub in-order : parts .from ≤ parts .to
   in-order = omega (arith, from-is, to-is, inside)
 
@@ -110,18 +110,18 @@ module _ (right : Bool) (body : List ℕ) (parts : Parts) (opened : openedIf rig
 
   -- what is told of them is told of the body's code and data
   module _ (role : Role) where
-    told-body : told role (parts .code) (parts .from) (take (parts .to - parts .from) (drop (parts .from) body))
-        ≡ told role (codeIn body) (addressLength (addressIn body) + 1) (dataIn body)
-    told-body = rw (part-is, code-is, from-is)
+    told-body : told role (parts .address) (parts .code) (take (parts .to - parts .from) (drop (parts .from) body))
+        ≡ told role (addressIn body) (codeIn body) (dataIn body)
+    told-body = rw (part-is, code-is, address-is)
 
-    pub untold : (why : Refusal) → told role (parts .code) (parts .from) (take (parts .to - parts .from) (drop (parts .from) body)) ≡ told-as.Refused why
+    pub untold : (why : Refusal) → told role (parts .address) (parts .code) (take (parts .to - parts .from) (drop (parts .from) body)) ≡ told-as.Refused why
         → received-as.Refused why ≡ readIf right role body
     unfolding told readIf
     untold why e =
         let verdict = telling-refused (judgedMessage role (codeIn body) (dataIn body)) _ why (sym told-body ∙ e) in
         rw (was-good, verdict)
 
-    pub message-told : (what : What) → told role (parts .code) (parts .from) (take (parts .to - parts .from) (drop (parts .from) body)) ≡ told-as.What what
+    pub message-told : (what : What) → told role (parts .address) (parts .code) (take (parts .to - parts .from) (drop (parts .from) body)) ≡ told-as.What what
         → received-as.Message (record { address = parts .address; code = parts .code; from = parts .from; to = parts .to; what = what })
         ≡ readIf right role body
     unfolding told readIf messageOf partsOf

@@ -12,9 +12,9 @@ use Rattle.body.specs.declared.addresses.Address.{Address}
 use Rattle.body.specs.Addresses.{legal}
 use Rattle.frame.specs.Writing.{judgedFields, judgedWrite, writtenFrame}
 use Rattle.codes.specs.declared.table.Role.{Role}
-use Rattle.message.specs.declared.meaning.What.{What}
-use Rattle.message.specs.declared.meaning.Told.the-variants as told-as
-use Rattle.message.specs.Judging.{judgedMessage, told}
+use Rattle.meaning.specs.declared.meaning.What.{What}
+use Rattle.meaning.specs.declared.meaning.Told.the-variants as told-as
+use Rattle.meaning.specs.Judging.{judgedMessage, told}
 use Rattle.message.specs.Writing.{judgedMessageWrite, writtenMessage}
 use Rattle.message.proofs.Opening.{telling-good, telling-refused}
 
@@ -26,14 +26,14 @@ module _ (role : Role) (address : Address) (code : ℕ) (data′ room : List ℕ
   illegal-leaves illegal e = rw illegal (record { answer = e; room = refl })
 
   -- 6, 7, 8
-  pub untold-leaves : {answered : Written} → legal address ≡ true → (why : Refusal) → told role code 0 data′ ≡ told-as.Refused why
+  pub untold-leaves : {answered : Written} → legal address ≡ true → (why : Refusal) → told role address code data′ ≡ told-as.Refused why
       → answered ≡ refusedWrite why → Leaves (writtenMessage role address code data′ room) answered room
   unfolding told writtenMessage judgedMessageWrite
   untold-leaves is-legal why refused e =
       rw (is-legal, telling-refused (judgedMessage role code data′) _ why refused) (record { answer = e; room = refl })
 
   -- 2, 9, and the frame
-  pub told-leaves : {answered : Written} {left : List ℕ} → legal address ≡ true → (what : What) → told role code 0 data′ ≡ told-as.What what
+  pub told-leaves : {answered : Written} {left : List ℕ} → legal address ≡ true → (what : What) → told role address code data′ ≡ told-as.What what
       → Leaves (writtenFrame address code data′ room) answered left → Leaves (writtenMessage role address code data′ room) answered left
   unfolding told writtenMessage judgedMessageWrite writtenFrame judgedWrite judgedFields
   told-leaves is-legal what said leaves =

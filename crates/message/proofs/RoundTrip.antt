@@ -14,16 +14,17 @@ use Rattle.refusal.specs.declared.Verdict.the-variants.{Good, Refused}
 use Rattle.refusal.proofs.Verdicts.{refused-not-good, test-passed, rest-passed}
 use Rattle.body.specs.declared.addresses.Address.{Address}
 use Rattle.body.specs.Addresses.{legal, addressIn}
-use Rattle.body.specs.Body.{bodyOf, judgedLent, codeIn, dataIn}
+use Rattle.body.specs.Body.{bodyOf, judged, judgedLent, codeIn, dataIn}
 use Rattle.frame.specs.Stuffing.{needed}
 use Rattle.body.proofs.Rebuilding.{address-back, code-back, data-back, made-good, good-address, rebuilt, lent-good, lent-at-most}
 use Rattle.body.proofs.Shortness.{good-not-short}
 use Rattle.codes.specs.declared.table.Role.{Role}
 use Rattle.message.specs.declared.reading.Message.{Message}
 use Rattle.message.specs.declared.reading.Received.the-variants as received-as
-use Rattle.message.specs.Judging.{andThen, judgedMessage}
-use Rattle.message.specs.Reading.{messageOf, judgedBody, receiving, readMessage}
+use Rattle.meaning.specs.Judging.{andThen, judgedMessage}
+use Rattle.message.specs.Reading.{messageOf, judgedBody, receiving, readIf, readMessage}
 use Rattle.message.specs.Writing.{judgedMessageWrite}
+use Rattle.message.proofs.Checked.{in-order, read-so}
 use Rattle.message.proofs.Opening.{data-end}
 
 -- of two judges one after the other that say Good, each does
@@ -49,19 +50,19 @@ may-be-written role address code data′ room is-legal good fits enough = rw (is
 
 module _ (role : Role) (body : List ℕ) (message : Message) (received : readMessage role body ≡ received-as.Message message) where
   both-good : judgedBody role body ≡ Good
-  unfolding readMessage
+  unfolding readMessage readIf judgedBody
   both-good = receiving-good (judgedBody role body) _ message received .0
 
-  message-is : message ≡ messageOf role (addressIn body) (codeIn body) (dataIn body)
-  unfolding readMessage
+  pub message-is : message ≡ messageOf role (addressIn body) (codeIn body) (dataIn body)
+  unfolding readMessage readIf judgedBody
   message-is = receiving-good (judgedBody role body) _ message received .1
 
-  read-lent : judgedLent body ≡ Good
-  unfolding judgedBody
+  pub read-lent : judgedLent body ≡ Good
+  unfolding judgedBody judgedLent
   read-lent = first-good (judgedLent body) _ both-good
 
-  read-judged : judgedMessage role (codeIn body) (dataIn body) ≡ Good
-  unfolding judgedBody
+  pub read-judged : judgedMessage role (codeIn body) (dataIn body) ≡ Good
+  unfolding judgedBody judgedLent
   read-judged = second-good (judgedLent body) _ both-good
 
   -- where the message says its data stand, they stand
@@ -104,13 +105,14 @@ module _ (role : Role) (address : Address) (code : ℕ) (data′ room : List ℕ
       (second-good (judgedMessage role code data′) _ (rest-passed (not (legal address)) _ _ good)))
 
   pub written-lent : judgedLent (bodyOf address code data′) ≡ Good
-  unfolding judgedLent
+  unfolding judgedLent judged
   written-lent = rw (le-ltb 255 (length (bodyOf address code data′)) written-fits) (made-good code data′ address written-legal)
 
   pub read-back : readMessage role (bodyOf address code data′) ≡ received-as.Message (messageOf role address code data′)
-  unfolding readMessage judgedBody
   read-back =
       rw (
+        read-so role (bodyOf address code data′),
+        in-order role (bodyOf address code data′),
         written-lent,
         address-back code data′ address written-legal,
         code-back code data′ address written-legal,

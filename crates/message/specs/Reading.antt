@@ -7,25 +7,27 @@ use lib.ListN.{length}
 use Rattle.refusal.specs.declared.Verdict.{Verdict}
 use Rattle.refusal.specs.declared.Verdict.the-variants.{Good, Refused}
 use Rattle.body.specs.declared.addresses.Address.{Address}
-use Rattle.body.specs.Addresses.{addressIn, addressLength}
-use Rattle.body.specs.Body.{judgedLentIf, judgedLent, codeIn, dataIn}
+use Rattle.body.specs.Addresses.{addressIn}
+use Rattle.body.specs.Body.{checkRight, judgedLentIf, codeIn, dataIn}
 use Rattle.codes.specs.declared.table.Role.{Role}
 use Rattle.message.specs.declared.reading.Message.{Message}
 use Rattle.message.specs.declared.reading.Received.{Received}
 use Rattle.message.specs.declared.reading.Received.the-variants as received-as
 use Rattle.codes.specs.Table.{rowOf}
-use Rattle.message.specs.Meaning.{meaning}
-use Rattle.message.specs.Judging.{andThen, judgedMessage}
+use Rattle.meaning.specs.Meaning.{dataFrom, meaning}
+use Rattle.meaning.specs.Judging.{andThen, judgedMessage}
 
 -- the message of an address, a code and data: in its body the data stand behind the code
 unfoldable pub messageOf : Role → Address → ℕ → List ℕ → Message
 messageOf role address code data′ =
-    let from = addressLength address + 1 in
-    record { address = address; code = code; from = from; to = from + length data′; what = meaning (rowOf role code) from data′ }
+    record { address = address; code = code; from = dataFrom address; to = dataFrom address + length data′; what = meaning (rowOf role code) (dataFrom address) data′ }
 
--- a lent body: 2, 1, 4, 5, and then 6, 7, 8
+-- a lent body, given whether its check is right: 2, 1, 4, 5, and then 6, 7, 8
+abbrev pub judgedBodyIf : Bool → Role → List ℕ → Verdict
+judgedBodyIf right role body = andThen (judgedLentIf right body) (judgedMessage role (codeIn body) (dataIn body))
+
 unfoldable pub judgedBody : Role → List ℕ → Verdict
-judgedBody role body = andThen (judgedLent body) (judgedMessage role (codeIn body) (dataIn body))
+judgedBody role body = judgedBodyIf (checkRight body) role body
 
 abbrev pub receiving : Verdict → Message → Received
 receiving Good message = received-as.Message message
@@ -36,12 +38,10 @@ abbrev pub verdictOf : Received → Verdict
 verdictOf (received-as.Message message) = Good
 verdictOf (received-as.Refused why) = Refused why
 
--- the message that a lent body holds, or the refusal it earns
-unfoldable pub readMessage : Role → List ℕ → Received
-readMessage role body = receiving (judgedBody role body) (messageOf role (addressIn body) (codeIn body) (dataIn body))
-
--- the same of a body of which it is known whether its check is right: one that a line handed out had a right one
+-- the message that a lent body holds, or the refusal it earns, given whether its check is right: one that a line handed out had a right one
 unfoldable pub readIf : Bool → Role → List ℕ → Received
-readIf right role body =
-    receiving (andThen (judgedLentIf right body) (judgedMessage role (codeIn body) (dataIn body)))
-    (messageOf role (addressIn body) (codeIn body) (dataIn body))
+readIf right role body = receiving (judgedBodyIf right role body) (messageOf role (addressIn body) (codeIn body) (dataIn body))
+
+-- by the body's own check
+unfoldable pub readMessage : Role → List ℕ → Received
+readMessage role body = readIf (checkRight body) role body

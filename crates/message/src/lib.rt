@@ -1,9 +1,7 @@
 // The messages of the paper's table, in both roles: read from a lent body, and written into lent room.
-mod meaning;
 mod reading;
 mod writing;
 
-pub use meaning::What;
 pub use reading::Message;
 pub use reading::Received;
 pub use reading::read;

@@ -1,12 +1,12 @@
 // Reading: a lent body and a role to a message.
-use crate::meaning::Told;
-use crate::meaning::What;
-use crate::meaning::tell;
 use body::Address;
 use body::Opened;
 use body::check_right;
 use body::open_checked;
 use codes::Role;
+use meaning::Told;
+use meaning::What;
+use meaning::tell;
 use refusal::Refusal;
 ghost use mathlib.Core.Path.{_≡_};
 ghost use Rattle.message.specs.Reading.{readIf, readMessage};
@@ -39,7 +39,7 @@ pub fn read_checked(role: Role, right: bool, body: &[u8]) -> Received
             let code = parts.code;
             let from = parts.from;
             let to = parts.to;
-            match tell(role, code, from, &body[from..to]) {
+            match tell(role, address, code, &body[from..to]) {
                 Told::Refused(why) => Received::Refused(why),
                 Told::What(what) => Received::Message(Message {
                     address,

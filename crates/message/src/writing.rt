@@ -1,9 +1,9 @@
 // Writing: role, address, code and the data bytes of the table's row to a frame in lent room.
-use crate::meaning::Told;
-use crate::meaning::tell;
 use body::Address;
 use body::legal;
 use codes::Role;
+use meaning::Told;
+use meaning::tell;
 use refusal::Refusal;
 use room::Written;
 use room::refused_write;
@@ -18,7 +18,7 @@ pub fn write(role: Role, address: Address, code: u8, data: &[u8], room: &mut [u8
     if !legal(address) {
         return refused_write(Refusal::AddressIllegal);
     }
-    match tell(role, code, 0, data) {
+    match tell(role, address, code, data) {
         Told::Refused(why) => refused_write(why),
         Told::What(_) => frame::write(address, code, data, room),
     }

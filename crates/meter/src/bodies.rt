@@ -6,7 +6,7 @@ use body::Address;
 use codes::Role;
 use message::Message;
 use message::Received;
-use message::What;
+use meaning::What;
 use message::read;
 use refusal::number;
 use std::num::wrapping_add_u64;

@@ -7,8 +7,8 @@ use Rattle.body.specs.Addresses.{firstByte, serialOf}
 use Rattle.weight.specs.declared.Packed.{Packed}
 use Rattle.weight.specs.declared.Packed.the-variants as packed-as
 use Rattle.weight.specs.Bytes.{bytesOf}
-use Rattle.message.specs.declared.meaning.What.{What}
-use Rattle.message.specs.declared.meaning.What.the-variants as says
+use Rattle.meaning.specs.declared.meaning.What.{What}
+use Rattle.meaning.specs.declared.meaning.What.the-variants as says
 use Rattle.message.specs.declared.reading.Message.{Message}
 use Rattle.message.specs.declared.reading.Received.{Received}
 use Rattle.message.specs.declared.reading.Received.the-variants as received-as

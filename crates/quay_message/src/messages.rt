@@ -6,7 +6,7 @@ use crossing::QuayWeight;
 use crossing::role_from;
 use message::Message;
 use message::Received;
-use message::What;
+use meaning::What;
 use records::kind_of;
 use refusal::Refusal;
 use refusal::number;

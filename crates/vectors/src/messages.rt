@@ -14,7 +14,7 @@ use crate::words::say_tagged;
 use codes::Load;
 use message::Message;
 use message::Received;
-use message::What;
+use meaning::What;
 use room::Written;
 use weight::Reading;
 

@@ -1,6 +1,5 @@
 -- `body::open` meets its contract: a lent body is opened by its own check.
 -- Why: the check is judged as the receiver judges it, and the rest is the definition.
-use Rattle.body.specs.Body.{judged, judgedLent, openedIf, openedBody}
 use borrow.Author.Needs.{needs}
 use Rattle.body.proofs.bodies.open.Statement.{statement}
 use Rattle.body.proofs.bodies.open.Tie as tie
@@ -16,7 +15,6 @@ open-checked-requires : tie.Need-open-checked-requires
 open-checked-requires c κs = search needs
 
 returns : tie.Need-returns
-unfolding openedBody judgedLent judged openedIf
 returns c = rw (c .open-checked .ensures, c .before .check-right .ensures)
 
 pub open-spec : {M : Type 1} → statement M

@@ -1,14 +1,14 @@
 -- `message::read_checked` meets its contract: a lent body is judged 2, 1, 4, 5 and then 6, 7, 8, and a good one is told.
 -- Why: the parts that were opened are the body's code and data, and what is told of them is told of the body.
 use mathlib.Core.Path.{_∙_, sym}
-use Rattle.message.proofs.Opening.{unopened, from-small, in-order, ends-inside, untold, message-told}
+use Rattle.message.proofs.Opening.{unopened, in-order, ends-inside, untold, message-told}
 use borrow.Author.Needs.{needs}
 use Rattle.message.proofs.reading.read_checked.Statement.{statement}
 use Rattle.message.proofs.reading.read_checked.Tie as tie
 use Rattle.message.proofs.reading.read_checked.Reads as reads
 use Rattle.message.proofs.reading.read_checked.Lts as lts
 use Rattle.body.proofs.open_checked.Reads as open-checked-reads
-use Rattle.message.proofs.meaning.tell.Reads as tell-reads
+use Rattle.meaning.proofs.tell.Reads as tell-reads
 
 open-checked-requires : tie.Need-open-checked-requires
 open-checked-requires c κs = search needs
@@ -29,7 +29,7 @@ part-tell-end : tie.Need-part-tell-end
 part-tell-end c = ends-inside _ (c .before .before .before .before .before .args .body .now) (c .before .parts .given .0 .0) (sym (c .before .before .before .open-checked .ensures) ∙ c .before .parts .given .1)
 
 tell-requires : tie.Need-tell-requires
-tell-requires c κs = from-small _ (c .before .before .before .before .before .before .args .body .now) (c .before .before .parts .given .0 .0) (sym (c .before .before .before .before .open-checked .ensures) ∙ c .before .before .parts .given .1)
+tell-requires c κs = search needs
 
 enum-known-why-2 : tie.Need-enum-known-why-2
 enum-known-why-2 c = search needs

@@ -1,14 +1,14 @@
--- `message::say_text` meets its contract: NUM and the place of the characters, or 8.
+-- `meaning::say_text` meets its contract: NUM and the place of the characters, or 8.
 -- Why: data with a count byte have two bytes, and the test is that of the row.
 use native.Mathlib.Omega.{arith}
-use Rattle.message.specs.Judging.{said}
+use Rattle.meaning.specs.Judging.{said}
 use Rattle.codes.proofs.Bytes.{counted}
 use borrow.Author.Needs.{needs}
-use Rattle.message.proofs.meaning.say_text.Statement.{statement}
-use Rattle.message.proofs.meaning.say_text.Tie as tie
-use Rattle.message.proofs.meaning.say_text.Reads as reads
-use Rattle.message.proofs.meaning.say_text.Lts as lts
-use Rattle.message.proofs.meaning.judged.Reads as judged-reads
+use Rattle.meaning.proofs.meaning.say_text.Statement.{statement}
+use Rattle.meaning.proofs.meaning.say_text.Tie as tie
+use Rattle.meaning.proofs.meaning.say_text.Reads as reads
+use Rattle.meaning.proofs.meaning.say_text.Lts as lts
+use Rattle.meaning.proofs.meaning.judged.Reads as judged-reads
 use Rattle.codes.proofs.is_among.Reads as is-among-reads
 
 shared-slice-read-number : tie.Need-shared-slice-read-number

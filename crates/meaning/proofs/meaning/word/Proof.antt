@@ -1,12 +1,12 @@
--- `message::word` meets its contract: four bytes as a number, low byte first.
+-- `meaning::word` meets its contract: four bytes as a number, low byte first.
 -- Why: two halves of 16 bits, put together.
 use native.Mathlib.Omega.{arith}
-use Rattle.message.specs.Meaning.{lowFirst}
+use Rattle.meaning.specs.Meaning.{lowFirst}
 use borrow.Author.Needs.{needs}
-use Rattle.message.proofs.meaning.word.Statement.{statement}
-use Rattle.message.proofs.meaning.word.Tie as tie
-use Rattle.message.proofs.meaning.word.Reads as reads
-use Rattle.message.proofs.meaning.word.Lts as lts
+use Rattle.meaning.proofs.meaning.word.Statement.{statement}
+use Rattle.meaning.proofs.meaning.word.Tie as tie
+use Rattle.meaning.proofs.meaning.word.Reads as reads
+use Rattle.meaning.proofs.meaning.word.Lts as lts
 
 mul-low : tie.Need-mul-low
 mul-low c = search needs

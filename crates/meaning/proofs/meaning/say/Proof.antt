@@ -1,25 +1,25 @@
--- `message::say` meets its contract: what data of the right length say, judged 8.
+-- `meaning::say` meets its contract: what data of the right length say, judged 8.
 -- Why: in each arm the row is the one that the arm names, its length tells that the bytes are there, and its test is the row's.
 use mathlib.Core.Path.{refl}
 use native.Mathlib.Omega.{arith}
 use Rattle.codes.specs.declared.table.Row.the-variants.{Serial, Number, Status, Weight, Inputs, Outputs, Event, Adc, Error}
-use Rattle.message.specs.Fields.{readIn}
-use Rattle.message.specs.Meaning.{onIn}
-use Rattle.message.specs.Judging.{said}
+use Rattle.meaning.specs.Fields.{readIn}
+use Rattle.meaning.specs.Meaning.{onIn}
+use Rattle.meaning.specs.Judging.{said}
 use Rattle.codes.proofs.Bytes.{exactly}
 use borrow.Author.Needs.{needs}
-use Rattle.message.proofs.meaning.say.Statement.{statement}
-use Rattle.message.proofs.meaning.say.Tie as tie
-use Rattle.message.proofs.meaning.say.Reads as reads
-use Rattle.message.proofs.meaning.say.Lts as lts
+use Rattle.meaning.proofs.meaning.say.Statement.{statement}
+use Rattle.meaning.proofs.meaning.say.Tie as tie
+use Rattle.meaning.proofs.meaning.say.Reads as reads
+use Rattle.meaning.proofs.meaning.say.Lts as lts
 use Rattle.inputs.proofs.count_on.Reads as count-on-reads
-use Rattle.message.proofs.meaning.adc_in.Reads as adc-in-reads
-use Rattle.message.proofs.meaning.four_in.Reads as four-in-reads
-use Rattle.message.proofs.meaning.judged.Reads as judged-reads
-use Rattle.message.proofs.meaning.say_event.Reads as say-event-reads
-use Rattle.message.proofs.meaning.say_text.Reads as say-text-reads
-use Rattle.message.proofs.meaning.serial_in.Reads as serial-in-reads
-use Rattle.message.proofs.meaning.word.Reads as word-reads
+use Rattle.meaning.proofs.meaning.adc_in.Reads as adc-in-reads
+use Rattle.meaning.proofs.meaning.four_in.Reads as four-in-reads
+use Rattle.meaning.proofs.meaning.judged.Reads as judged-reads
+use Rattle.meaning.proofs.meaning.say_event.Reads as say-event-reads
+use Rattle.meaning.proofs.meaning.say_text.Reads as say-text-reads
+use Rattle.meaning.proofs.meaning.serial_in.Reads as serial-in-reads
+use Rattle.meaning.proofs.meaning.word.Reads as word-reads
 use Rattle.codes.proofs.is_among.Reads as is-among-reads
 use Rattle.weight.proofs.read_bytes.Reads as read-bytes-reads
 

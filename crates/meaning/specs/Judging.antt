@@ -6,28 +6,33 @@ use Rattle.refusal.specs.declared.Refusal.the-variants.{CodeUnknown, LengthWron
 use Rattle.refusal.specs.declared.Verdict.{Verdict}
 use Rattle.refusal.specs.declared.Verdict.the-variants.{Good, Refused}
 use Rattle.refusal.specs.Numbers.{refuseIf}
+use Rattle.body.specs.declared.addresses.Address.{Address}
 use Rattle.codes.specs.declared.table.Role.{Role}
 use Rattle.codes.specs.declared.table.Row.{Row}
-use Rattle.message.specs.declared.meaning.What.{What}
-use Rattle.message.specs.declared.meaning.Told.{Told}
-use Rattle.message.specs.declared.meaning.Told.the-variants as told-as
+use Rattle.meaning.specs.declared.meaning.What.{What}
+use Rattle.meaning.specs.declared.meaning.Told.{Told}
+use Rattle.meaning.specs.declared.meaning.Told.the-variants as told-as
 use Rattle.codes.specs.Table.{rowOf, inTable}
 use Rattle.codes.specs.Lengths.{lengthOf, lengthRight}
-use Rattle.message.specs.Fields.{fieldsRight}
-use Rattle.message.specs.Meaning.{meaning}
+use Rattle.meaning.specs.Fields.{fieldsRight}
+use Rattle.meaning.specs.Meaning.{dataFrom, meaning}
 
 -- 7, then 8
 unfoldable pub judgedData : Row → List ℕ → Verdict
 judgedData row data′ = refuseIf (not (lengthRight (lengthOf row) data′)) LengthWrong (refuseIf (not (fieldsRight row data′)) FieldOutside Good)
 
--- 6 ahead of them
-unfoldable pub judgedMessage : Role → ℕ → List ℕ → Verdict
-judgedMessage role code data′ = refuseIf (not (inTable (rowOf role code))) CodeUnknown (judgedData (rowOf role code) data′)
-
 -- a judge after a judge: what the first refuses stays refused
 abbrev pub andThen : Verdict → Verdict → Verdict
 andThen Good after = after
 andThen (Refused why) after = Refused why
+
+-- 6
+unfoldable pub judgedCode : Role → ℕ → Verdict
+judgedCode role code = refuseIf (not (inTable (rowOf role code))) CodeUnknown Good
+
+-- 6 ahead of 7, 8
+unfoldable pub judgedMessage : Role → ℕ → List ℕ → Verdict
+judgedMessage role code data′ = andThen (judgedCode role code) (judgedData (rowOf role code) data′)
 
 -- what is said under a verdict
 abbrev pub telling : Verdict → What → Told
@@ -35,8 +40,8 @@ telling Good what = told-as.What what
 telling (Refused why) what = told-as.Refused why
 
 -- what code and data say, or the refusal they earn
-unfoldable pub told : Role → ℕ → ℕ → List ℕ → Told
-told role code from data′ = telling (judgedMessage role code data′) (meaning (rowOf role code) from data′)
+unfoldable pub told : Role → Address → ℕ → List ℕ → Told
+told role address code data′ = telling (judgedMessage role code data′) (meaning (rowOf role code) (dataFrom address) data′)
 
 -- its last step, where 6 and 7 are passed
 abbrev pub within : Bool → What → Told

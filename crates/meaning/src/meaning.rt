@@ -1,4 +1,6 @@
 // What a message says: its code and data judged 6, 7, 8, and then as numbers, a reading, or the place of a text.
+use body::Address;
+use body::address_length;
 use codes::Length;
 use codes::Load;
 use codes::Num;
@@ -19,8 +21,8 @@ ghost use mathlib.Core.List.{[], _∷_};
 ghost use Prim.Native.Nat.{_≤_, _<_};
 ghost use lib.ListN.{length};
 ghost use Rattle.codes.specs.Lengths.{lengthOf, lengthRight};
-ghost use Rattle.message.specs.Meaning.{bytesOf, lowFirst};
-ghost use Rattle.message.specs.Judging.{within, said, told};
+ghost use Rattle.meaning.specs.Meaning.{bytesOf, lowFirst};
+ghost use Rattle.meaning.specs.Judging.{within, said, told};
 
 // What a message says. A text, and the six bytes of an event, stand in the lent body from place `from` up to, not including, place `to`.
 pub enum What {
@@ -182,10 +184,9 @@ fn say(row: Row, from: usize, data: &[u8]) -> Told
     }
 }
 
-// Code and data judged 6, 7, 8, and what they say. The data begin at place `from` of a body.
-pub(crate) fn tell(role: Role, code: u8, from: usize, data: &[u8]) -> Told
-    requires { ⌜ from ≤ 255 ⌝ }
-    ensures { λ r. ⌜ r ≡ told role code from (now («data» .entry)) ⌝ }
+// Code and data judged 6, 7, 8, and what they say. In a body the data stand behind the address and the code.
+pub fn tell(role: Role, address: Address, code: u8, data: &[u8]) -> Told
+    ensures { λ r. ⌜ r ≡ told role address code (now («data» .entry)) ⌝ }
 {
     let row = row_of(role, code);
     if !in_table(row) {
@@ -194,5 +195,6 @@ pub(crate) fn tell(role: Role, code: u8, from: usize, data: &[u8]) -> Told
     if !length_right(row, data) {
         return Told::Refused(Refusal::LengthWrong);
     }
+    let from = address_length(address) + 1;
     say(row, from, data)
 }

@@ -1,12 +1,12 @@
--- `message::say_event` meets its contract: EVENT and the place of the six bytes, or 8.
+-- `meaning::say_event` meets its contract: EVENT and the place of the six bytes, or 8.
 -- Why: the test is that of the row.
-use Rattle.message.specs.Judging.{said}
+use Rattle.meaning.specs.Judging.{said}
 use borrow.Author.Needs.{needs}
-use Rattle.message.proofs.meaning.say_event.Statement.{statement}
-use Rattle.message.proofs.meaning.say_event.Tie as tie
-use Rattle.message.proofs.meaning.say_event.Reads as reads
-use Rattle.message.proofs.meaning.say_event.Lts as lts
-use Rattle.message.proofs.meaning.judged.Reads as judged-reads
+use Rattle.meaning.proofs.meaning.say_event.Statement.{statement}
+use Rattle.meaning.proofs.meaning.say_event.Tie as tie
+use Rattle.meaning.proofs.meaning.say_event.Reads as reads
+use Rattle.meaning.proofs.meaning.say_event.Lts as lts
+use Rattle.meaning.proofs.meaning.judged.Reads as judged-reads
 
 shared-slice-read-event : tie.Need-shared-slice-read-event
 shared-slice-read-event c = search needs

@@ -2,16 +2,18 @@
 use Prim.Native.Nat.{ℕ, _+_, _*_}
 use mathlib.Core.List.{List, [], _∷_}
 use lib.ListN.{length, getD}
+use Rattle.body.specs.declared.addresses.Address.{Address}
+use Rattle.body.specs.Addresses.{addressLength}
 use Rattle.weight.specs.declared.Read.{Read}
 use Rattle.weight.specs.declared.Read.the-variants as read-as
 use Rattle.inputs.specs.On.{inputsOn}
 use Rattle.codes.specs.declared.table.Load.{Load}
 use Rattle.codes.specs.declared.table.Row.{Row}
 use Rattle.codes.specs.declared.table.Row.the-variants.{Unknown, Empty, Serial, Number, Status, Weight, Inputs, Outputs, Text, Event, Adc, Error}
-use Rattle.message.specs.declared.meaning.Four.{Four}
-use Rattle.message.specs.declared.meaning.What.{What}
-use Rattle.message.specs.declared.meaning.What.the-variants as says
-use Rattle.message.specs.Fields.{readIn}
+use Rattle.meaning.specs.declared.meaning.Four.{Four}
+use Rattle.meaning.specs.declared.meaning.What.{What}
+use Rattle.meaning.specs.declared.meaning.What.the-variants as says
+use Rattle.meaning.specs.Fields.{readIn}
 
 -- "low first"
 unfoldable pub lowFirst : List ℕ → ℕ
@@ -30,6 +32,10 @@ onIn data′ = inputsOn (getD data′ 0 0) (getD data′ 1 0) (getD data′ 2 0)
 abbrev pub weighed : Load → Read → What
 weighed load (read-as.Good reading) = says.Weight load reading
 weighed load (read-as.Refused why) = says.Nothing
+
+-- where in a body the data begin: behind the address and the code
+abbrev pub dataFrom : Address → ℕ
+dataFrom address = addressLength address + 1
 
 -- the data begin at place `from` of the body
 abbrev pub meaning : Row → ℕ → List ℕ → What

@@ -1,16 +1,16 @@
--- `message::adc_in` meets its contract: five bytes as a number, low byte first.
+-- `meaning::adc_in` meets its contract: five bytes as a number, low byte first.
 -- Why: the fifth stands 32 bits above the four before it.
 use mathlib.Core.Path.{ap}
 use native.Mathlib.Omega.{arith}
-use Rattle.message.specs.Meaning.{lowFirst}
+use Rattle.meaning.specs.Meaning.{lowFirst}
 use Rattle.room.proofs.ByteLists.{by-place, placed}
 use borrow.Author.Needs.{needs}
-use Rattle.message.proofs.meaning.adc_in.Statement.{statement}
-use Rattle.message.proofs.meaning.adc_in.Tie as tie
-use Rattle.message.proofs.meaning.adc_in.Reads as reads
-use Rattle.message.proofs.meaning.adc_in.Lts as lts
-use Rattle.message.proofs.meaning.wide.Reads as wide-reads
-use Rattle.message.proofs.meaning.word.Reads as word-reads
+use Rattle.meaning.proofs.meaning.adc_in.Statement.{statement}
+use Rattle.meaning.proofs.meaning.adc_in.Tie as tie
+use Rattle.meaning.proofs.meaning.adc_in.Reads as reads
+use Rattle.meaning.proofs.meaning.adc_in.Lts as lts
+use Rattle.meaning.proofs.meaning.wide.Reads as wide-reads
+use Rattle.meaning.proofs.meaning.word.Reads as word-reads
 
 shared-slice-read-word : tie.Need-shared-slice-read-word
 shared-slice-read-word c = search needs

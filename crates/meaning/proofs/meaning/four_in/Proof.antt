@@ -1,11 +1,11 @@
--- `message::four_in` meets its contract: data of four bytes are those bytes in their order.
+-- `meaning::four_in` meets its contract: data of four bytes are those bytes in their order.
 -- Why: a list of four is the list of what stands at its four places.
 use Rattle.room.proofs.ByteLists.{by-place, placed}
 use borrow.Author.Needs.{needs}
-use Rattle.message.proofs.meaning.four_in.Statement.{statement}
-use Rattle.message.proofs.meaning.four_in.Tie as tie
-use Rattle.message.proofs.meaning.four_in.Reads as reads
-use Rattle.message.proofs.meaning.four_in.Lts as lts
+use Rattle.meaning.proofs.meaning.four_in.Statement.{statement}
+use Rattle.meaning.proofs.meaning.four_in.Tie as tie
+use Rattle.meaning.proofs.meaning.four_in.Reads as reads
+use Rattle.meaning.proofs.meaning.four_in.Lts as lts
 
 shared-slice-read-first : tie.Need-shared-slice-read-first
 shared-slice-read-first c = search needs
