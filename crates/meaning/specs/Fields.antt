@@ -1,12 +1,11 @@
 -- 01, "Messages", refusal 8: the values of the fields of each row. "Characters, C7 bytes and NER are any byte."
 use Prim.Native.Nat.{ℕ}
-use mathlib.Core.Bool.{Bool, true, false, not}
+use mathlib.Core.Bool.{Bool, true, not}
 use mathlib.Core.List.{List}
 use lib.ListN.{getD}
 use lib.Dec.{eqb, ltb}
 use Rattle.weight.specs.declared.Read.{Read}
-use Rattle.weight.specs.declared.Read.the-variants.{Good, Refused}
-use Rattle.weight.specs.Bytes.{readOf}
+use Rattle.weight.specs.Bytes.{readOf, readable}
 use Rattle.codes.specs.declared.table.Row.{Row}
 use Rattle.codes.specs.declared.table.Row.the-variants.{Unknown, Empty, Serial, Number, Status, Weight, Inputs, Outputs, Text, Event, Adc, Error}
 use Rattle.codes.specs.Table.{among}
@@ -14,11 +13,6 @@ use Rattle.codes.specs.Table.{among}
 -- W0 W1 W2 CON
 unfoldable pub readIn : List ℕ → Read
 readIn data′ = readOf (getD data′ 0 0) (getD data′ 1 0) (getD data′ 2 0) (getD data′ 3 0)
-
--- "a half above 9 is refusal 8"
-abbrev pub readable : Read → Bool
-readable (Good reading) = true
-readable (Refused why) = false
 
 abbrev pub fieldsRight : Row → List ℕ → Bool
 fieldsRight Unknown data′ = true

@@ -12,9 +12,9 @@ use crate::words::say_refusal;
 use crate::words::say_small;
 use crate::words::say_tagged;
 use codes::Load;
+use meaning::What;
 use message::Message;
 use message::Received;
-use meaning::What;
 use room::Written;
 use weight::Reading;
 

@@ -1,7 +1,7 @@
 -- 01, "Weight": a reading and its four bytes. "A reading keeps the sign bit, the number 0 to 999,999, the point and the flags, so its four
 -- bytes come back exactly. A reading handed in with a number above 999,999 or a point above 7 is refusal 8 wherever it is used."
 use Prim.Native.Nat.{ℕ, _/_}
-use mathlib.Core.Bool.{Bool, _&&_, cond}
+use mathlib.Core.Bool.{Bool, true, false, _&&_, cond}
 use lib.Dec.{leb}
 use Rattle.refusal.specs.declared.Refusal.the-variants.{FieldOutside}
 use Rattle.weight.specs.declared.Reading.{Reading}
@@ -19,6 +19,11 @@ legal reading = leb (reading .number) 999999 && leb (reading .point) 7
 -- W0 W1 W2 CON to a reading
 unfoldable pub readOf : ℕ → ℕ → ℕ → ℕ → Read
 readOf w0 w1 w2 con = cond (allDecimal w0 w1 w2) (Good (readingOf (digitsOf w0 w1 w2) con)) (NotRead FieldOutside)
+
+-- whether they could be read: "a half above 9 is refusal 8"
+abbrev pub readable : Read → Bool
+readable (Good reading) = true
+readable (NotRead why) = false
 
 -- a reading to W0 W1 W2 CON
 unfoldable pub bytesOf : Reading → Packed
