@@ -2,6 +2,7 @@ pub mod AllHeard
 pub mod ByPlaces
 pub mod Bytes
 pub mod Corollaries
+pub mod Counts
 pub mod Cuts
 pub mod Demand3
 pub mod Examples

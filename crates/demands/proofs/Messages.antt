@@ -13,11 +13,11 @@ use Rattle.refusal.specs.declared.Refusal.the-variants.{BodyLong, CodeUnknown, 
 use Rattle.refusal.specs.declared.Verdict.{Verdict}
 use Rattle.refusal.specs.declared.Verdict.the-variants.{Good, Refused}
 use Rattle.refusal.specs.Numbers.{numberOf, verdictNumber, refuseIf}
-use Rattle.room.specs.Writing.{wrote}
+use Rattle.room.specs.Writing.{judgedRoom, wrote}
 use Rattle.body.specs.Addresses.{addressIn}
 use Rattle.body.specs.Body.{bodyOf, codeIn, dataIn}
 use Rattle.frame.specs.Stuffing.{framed, needed}
-use Rattle.frame.specs.Writing.{judgedLength, judgedRoom}
+use Rattle.frame.specs.Writing.{judgedLength}
 use Rattle.codes.specs.declared.table.Role.{Role}
 use Rattle.message.specs.declared.reading.Message.{Message}
 use Rattle.codes.specs.Table.{rowOf, inTable}
@@ -130,7 +130,7 @@ pub writing-refuses : WritingRefuses
 unfolding writtenMessage judgedMessageWrite
 writing-refuses role address code data′ room =
     let body = bodyOf address code data′ in
-    let after = judgedLength body (judgedRoom body room) in
+    let after = judgedLength body (judgedRoom (needed body) room) in
     record {
       ahead = λ illegal. rw illegal;
       then = λ is-legal.

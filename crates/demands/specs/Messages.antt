@@ -14,12 +14,12 @@ use Rattle.refusal.specs.declared.Refusal.the-variants.{AddressIllegal, BodyLon
 use Rattle.refusal.specs.declared.Verdict.{Verdict}
 use Rattle.refusal.specs.declared.Verdict.the-variants.{Good, Refused}
 use Rattle.refusal.specs.Numbers.{refuseIf}
-use Rattle.room.specs.Writing.{Left, wrote}
+use Rattle.room.specs.Writing.{Left, judgedRoom, wrote}
 use Rattle.body.specs.declared.addresses.Address.{Address}
 use Rattle.body.specs.Addresses.{legal}
 use Rattle.body.specs.Body.{bodyOf, judgedLent, codeIn, dataIn}
 use Rattle.frame.specs.Stuffing.{framed, needed}
-use Rattle.frame.specs.Writing.{judgedLength, judgedRoom}
+use Rattle.frame.specs.Writing.{judgedLength}
 use Rattle.line.specs.Listener.{frame, fresh, events}
 use Rattle.codes.specs.declared.table.Role.{Role}
 use Rattle.message.specs.declared.reading.Message.{Message}
@@ -88,7 +88,7 @@ ReadingRefuses = (role : Role) (body : List ℕ) → ReadByTheTable role body
 pub record WrittenByTheTable (role : Role) (address : Address) (code : ℕ) (data′ room : List ℕ) : Type 0 where
   pub ahead : legal address ≡ false → writtenMessage role address code data′ room .answer .verdict ≡ Refused AddressIllegal
   pub then : legal address ≡ true
-      → AsTheTableSays role code data′ (judgedLength (bodyOf address code data′) (judgedRoom (bodyOf address code data′) room)) (writtenMessage role address code data′ room .answer .verdict)
+      → AsTheTableSays role code data′ (judgedLength (bodyOf address code data′) (judgedRoom (needed (bodyOf address code data′)) room)) (writtenMessage role address code data′ room .answer .verdict)
 
 abbrev pub WritingRefuses : Type 0
 WritingRefuses = (role : Role) (address : Address) (code : ℕ) (data′ room : List ℕ) → WrittenByTheTable role address code data′ room

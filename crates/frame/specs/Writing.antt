@@ -4,11 +4,11 @@ use mathlib.Core.Bool.{not}
 use mathlib.Core.List.{List}
 use lib.ListN.{length}
 use lib.Dec.{ltb}
-use Rattle.refusal.specs.declared.Refusal.the-variants.{AddressIllegal, BodyLong, RoomShort}
+use Rattle.refusal.specs.declared.Refusal.the-variants.{AddressIllegal, BodyLong}
 use Rattle.refusal.specs.declared.Verdict.{Verdict}
 use Rattle.refusal.specs.declared.Verdict.the-variants.{Good, Refused}
 use Rattle.refusal.specs.Numbers.{refuseIf}
-use Rattle.room.specs.Writing.{Left, wrote}
+use Rattle.room.specs.Writing.{Left, judgedRoom, wrote}
 use Rattle.body.specs.declared.addresses.Address.{Address}
 use Rattle.frame.specs.declared.writing.Needed.{Needed}
 use Rattle.frame.specs.declared.writing.Needed.the-variants as needed-as
@@ -24,10 +24,6 @@ judgedAddress address after = refuseIf (not (legal address)) AddressIllegal afte
 abbrev pub judgedLength : List ℕ → Verdict → Verdict
 judgedLength body after = refuseIf (ltb longest (length body)) BodyLong after
 
--- 9
-abbrev pub judgedRoom : List ℕ → List ℕ → Verdict
-judgedRoom body room = refuseIf (ltb (length room) (needed body)) RoomShort Good
-
 -- 5, 2, then whatever comes after
 unfoldable pub judgedFields : Address → ℕ → List ℕ → Verdict → Verdict
 judgedFields address code data′ after = judgedAddress address (judgedLength (bodyOf address code data′) after)
@@ -42,7 +38,7 @@ neededFor address code data′ = needing (judgedFields address code data′ Good
 
 -- 5, 2, 9
 unfoldable pub judgedWrite : Address → ℕ → List ℕ → List ℕ → Verdict
-judgedWrite address code data′ room = judgedFields address code data′ (judgedRoom (bodyOf address code data′) room)
+judgedWrite address code data′ room = judgedFields address code data′ (judgedRoom (needed (bodyOf address code data′)) room)
 
 -- the frame in the first bytes of the room, every other byte as it stood; refused, every byte as it stood
 unfoldable pub writtenFrame : Address → ℕ → List ℕ → List ℕ → Left

@@ -1,4 +1,5 @@
 -- 01, "Weight": "The model reads kilograms as a 64-bit float: the value over 10,000,000, rounded once."
+use Prim.Native.Nat.{ℕ}
 use mathlib.Core.Bool.{Bool, true, false}
 use lib.IntN.{ℤ, pos, negsuc, natAbs}
 use lib.Ieee.{Float, binary64, round}
@@ -14,9 +15,13 @@ abbrev pub negative : ℤ → Bool
 negative (pos size) = false
 negative (negsuc size) = true
 
--- the 64-bit float nearest to the value over 10,000,000
+-- "the value over 10,000,000"
+abbrev pub perKilogram : ℕ
+perKilogram = 10_000_000
+
+-- the 64-bit float nearest to it
 unfoldable pub rounded : ℤ → Float
-rounded value = round binary64 (negative value) (natAbs value) 10000000
+rounded value = round binary64 (negative value) (natAbs value) perKilogram
 
 -- each case of a value; a refusal stays what it is
 abbrev pub inKilograms : Value → Kilograms

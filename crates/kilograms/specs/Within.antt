@@ -5,7 +5,7 @@ use mathlib.Core.Path.{_≡_}
 use mathlib.Core.Bool.{Bool}
 use lib.IntN.{ℤ, natAbs}
 use lib.Ieee.{Float, nan, inf, fin, up, down}
-use Rattle.kilograms.specs.Rounded.{negative}
+use Rattle.kilograms.specs.Rounded.{negative, perKilogram}
 
 -- how far two numbers are apart
 abbrev pub apart : ℕ → ℕ → ℕ
@@ -20,4 +20,4 @@ Within parts (fin s m e) sign size scale = (s ≡ sign) × (apart (m * up e * sc
 
 -- the true weight is the value over 10,000,000
 abbrev pub NearTrueWeight : ℤ → Float → Type 0
-NearTrueWeight value float = Within (2 ^ 53) float (negative value) (natAbs value) 10000000
+NearTrueWeight value float = Within (2 ^ 53) float (negative value) (natAbs value) perKilogram

@@ -45,7 +45,7 @@ step state wire event = record { next = record { state = state; wire = wire }; e
 
 -- "A byte to keep that would be the 256th is refusal 2 and leads to Seeking"; its body count is 255
 unfoldable pub keep : List ℕ → ℕ → ℕ → Step
-keep kept byte wire = cond (ltb (length kept) longest) (step (inside (kept ++ (byte ∷ []))) wire nothing) (step seeking wire (refused BodyLong wire 255))
+keep kept byte wire = cond (ltb (length kept) longest) (step (inside (kept ++ (byte ∷ []))) wire nothing) (step seeking wire (refused BodyLong wire longest))
 
 -- a body has ended: the frame, or 1, 4, 5 in that order
 unfoldable pub ended : Verdict → List ℕ → ℕ → Heard

@@ -4,27 +4,20 @@ use mathlib.Core.Path.{_≡_}
 use mathlib.Core.Bool.{not}
 use mathlib.Core.List.{List, _++_}
 use lib.ListN.{length, drop}
-use lib.Dec.{ltb}
-use Rattle.refusal.specs.declared.Refusal.the-variants.{FieldOutside, RoomShort}
-use Rattle.refusal.specs.declared.Verdict.{Verdict}
-use Rattle.refusal.specs.declared.Verdict.the-variants.{Good}
+use Rattle.refusal.specs.declared.Refusal.the-variants.{FieldOutside}
 use Rattle.refusal.specs.Numbers.{refuseIf}
-use Rattle.room.specs.Writing.{Left, wrote}
+use Rattle.room.specs.Writing.{Left, judgedRoom, wrote}
 use Rattle.entries.specs.declared.entries.Entry.{Entry}
 use Rattle.entries.specs.Entries.{sound}
 use Rattle.listing.specs.Lines.{lineOf, totalOf}
 
--- 9
-abbrev pub judgedRoom : List ℕ → List ℕ → Verdict
-judgedRoom text room = refuseIf (ltb (length room) (length text)) RoomShort Good
-
 -- a text in the first bytes of the room, every other byte as it stood; refused, every byte as it stood
 unfoldable pub writtenText : List ℕ → List ℕ → Left
-writtenText text room = wrote (judgedRoom text room) text room
+writtenText text room = wrote (judgedRoom (length text) room) text room
 
 -- 8, 9
 unfoldable pub writtenLine : ℕ → Entry → List ℕ → Left
-writtenLine number entry room = wrote (refuseIf (not (sound entry)) FieldOutside (judgedRoom (lineOf number entry) room)) (lineOf number entry) room
+writtenLine number entry room = wrote (refuseIf (not (sound entry)) FieldOutside (judgedRoom (length (lineOf number entry)) room)) (lineOf number entry) room
 
 unfoldable pub writtenTotal : ℕ → ℕ → ℕ → List ℕ → Left
 writtenTotal total weights refused room = writtenText (totalOf total weights refused) room

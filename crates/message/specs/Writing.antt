@@ -3,18 +3,18 @@
 use Prim.Native.Nat.{ℕ}
 use mathlib.Core.List.{List}
 use Rattle.refusal.specs.declared.Verdict.{Verdict}
-use Rattle.room.specs.Writing.{Left, wrote}
+use Rattle.room.specs.Writing.{Left, judgedRoom, wrote}
 use Rattle.body.specs.declared.addresses.Address.{Address}
 use Rattle.body.specs.Body.{bodyOf}
-use Rattle.frame.specs.Stuffing.{framed}
-use Rattle.frame.specs.Writing.{judgedAddress, judgedLength, judgedRoom}
+use Rattle.frame.specs.Stuffing.{framed, needed}
+use Rattle.frame.specs.Writing.{judgedAddress, judgedLength}
 use Rattle.codes.specs.declared.table.Role.{Role}
 use Rattle.meaning.specs.Judging.{andThen, judgedMessage}
 
 -- 5; 6, 7, 8; 2; 9
 unfoldable pub judgedMessageWrite : Role → Address → ℕ → List ℕ → List ℕ → Verdict
 judgedMessageWrite role address code data′ room =
-    judgedAddress address (andThen (judgedMessage role code data′) (judgedLength (bodyOf address code data′) (judgedRoom (bodyOf address code data′) room)))
+    judgedAddress address (andThen (judgedMessage role code data′) (judgedLength (bodyOf address code data′) (judgedRoom (needed (bodyOf address code data′)) room)))
 
 -- the message's frame in the first bytes of the room, every other byte as it stood; refused, every byte as it stood
 unfoldable pub writtenMessage : Role → Address → ℕ → List ℕ → List ℕ → Left

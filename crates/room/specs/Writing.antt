@@ -4,9 +4,12 @@ use Prim.Native.Nat.{ℕ}
 use mathlib.Core.Path.{_≡_}
 use mathlib.Core.List.{List}
 use lib.ListN.{length}
+use lib.Dec.{ltb}
 use Rattle.refusal.specs.declared.Refusal.{Refusal}
+use Rattle.refusal.specs.declared.Refusal.the-variants.{RoomShort}
 use Rattle.refusal.specs.declared.Verdict.{Verdict}
 use Rattle.refusal.specs.declared.Verdict.the-variants.{Good, Refused}
+use Rattle.refusal.specs.Numbers.{refuseIf}
 use Rattle.room.specs.declared.Written.{Written}
 use Rattle.room.specs.Laying.{over}
 
@@ -14,6 +17,10 @@ use Rattle.room.specs.Laying.{over}
 pub record Left : Type 0 where
   pub answer : Written
   pub room : List ℕ
+
+-- refusal 9: "lent room shorter than needed"
+abbrev pub judgedRoom : ℕ → List ℕ → Verdict
+judgedRoom needs room = refuseIf (ltb (length room) needs) RoomShort Good
 
 -- "length 0 beside its number"
 abbrev pub refusedWrite : Refusal → Written
