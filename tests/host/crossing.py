@@ -19,13 +19,12 @@ import listing  # noqa: E402
 import log  # noqa: E402
 import message  # noqa: E402
 import weight  # noqa: E402
-from refusals import ACCEPTED, FIELD_WRONG, RECORD_WRONG  # noqa: E402
+from refusals import ACCEPTED, ALL as REFUSALS, FIELD_WRONG, RECORD_WRONG  # noqa: E402
 
 PHASES = ('seeking', 'delimited', 'inside', 'held')
 NOTHING, FRAME, REFUSED = 0, 1, 2
 ENTRIES = {'weight': 1, 'message': 2, 'refused': 3}
 LOADS = {message.GROSS: 1, message.NET: 2}
-REFUSALS = range(1, 12)
 
 ALL_ONES = 0xFFFFFFFF
 NO_READING = (ALL_ONES,) + (255,) * 6

@@ -18,6 +18,9 @@ ROOM_SHORT = 9       # lent room shorter than needed
 LOG_LEFT_OVER = 10   # log bytes left over, 1 to 19
 RECORD_WRONG = 11    # log record breaks a rule
 
+ALL = (BODY_TOO_SHORT, BODY_TOO_LONG, STRAY_BYTE, CHECK_WRONG, ADDRESS_WRONG, CODE_UNKNOWN,
+       LENGTH_WRONG, FIELD_WRONG, ROOM_SHORT, LOG_LEFT_OVER, RECORD_WRONG)
+
 
 def refused(number):
     """A reader's refusal: number only."""

@@ -1,17 +1,18 @@
 -- Shown: a body is address, code, data and check: how long it is, that taking one apart and putting it together are each other's inverse.
 -- Why: the address tells its own length by its first byte, and the check is the only last byte that feeds to 0.
 use Prim.Native.Nat.{ℕ, _+_}
-use mathlib.Core.Path.{_≡_, _∙_, refl, sym, ap}
-use mathlib.Core.List.{List, [], _∷_, _++_, append-assoc}
+use mathlib.Core.Path.{_≡_, _∙_, refl}
+use mathlib.Core.List.{List, _∷_}
 use native.Mathlib.Omega.{arith}
 use lib.ListN.{length, length-append}
+use Rattle.low_first.specs.LowFirst.{lowBytes}
 use Rattle.body.specs.declared.addresses.Address.{Address}
 use Rattle.body.specs.declared.addresses.Address.the-variants.{Short, Serial}
 use Rattle.body.specs.Addresses.{addressBytes, addressLength}
 use Rattle.body.specs.Body.{unchecked, bodyOf}
 
 pub address-length : (address : Address) → length (addressBytes address) ≡ addressLength address
-unfolding addressBytes addressLength
+unfolding addressBytes lowBytes addressLength
 address-length (Short byte) = refl
 address-length (Serial serial) = refl
 

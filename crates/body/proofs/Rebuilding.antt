@@ -1,14 +1,13 @@
 -- Shown: a good body taken apart and put together is itself, and a body put together from a legal address is good and gives back its parts.
 -- Why: the first byte tells how long the address is, and the check is the only last byte that feeds to 0.
-use Prim.Native.Nat.{ℕ, zero, suc, _+_, _-_, _*_, _/_, _%_, _≤_, _<_}
+use Prim.Native.Nat.{ℕ, suc, _+_, _-_, _≤_, _<_}
 use mathlib.Core.Path.{_≡_, _∙_, refl, sym, ap, ap₂}
-use mathlib.Core.Bool.{Bool, true, false, not, cond, _&&_, _||_, true≢false}
+use mathlib.Core.Bool.{Bool, true, false, not}
 use mathlib.Core.List.{List, [], _∷_, _++_}
 use native.Mathlib.Omega.{arith}
 use native.Mathlib.Numerals.{add-one}
-use native.Mathlib.Nat.{not-suc-le-zero, le-of-suc-le-suc}
-use borrow.Author.Tests.{ltb-false, leb-true, ne-eqb, eqb-true, eq-eqb, not-false}
-use lib.Dec.{T, ltb, leb, eqb, ltb→lt, lit<}
+use borrow.Author.Tests.{ltb-false, leb-true, ne-eqb, eqb-true, not-false, lt-ltb}
+use lib.Dec.{T, ltb, leb, eqb}
 use lib.ListN.{length, take, drop, getD, length-append, take-append-drop}
 use lib.Seq.{slice, take-at, take-suc, take-take, take-length, slice-cons}
 use lib.Pow.{areBytes}
@@ -18,11 +17,13 @@ use Rattle.refusal.proofs.Verdicts.{test-passed, rest-passed}
 use Rattle.room.proofs.ByteLists.{byte-at}
 use Rattle.check_byte.specs.Register.{received, checkOf}
 use Rattle.check_byte.proofs.Laws.{checked, only-check}
+use Rattle.low_first.specs.LowFirst.{lowBytes}
+use Rattle.low_first.proofs.Digits.{number-back, bytes-back}
 use Rattle.body.specs.declared.addresses.Address.{Address}
 use Rattle.body.specs.declared.addresses.Address.the-variants.{Short, Serial}
 use Rattle.body.specs.Addresses.{highestShort, legal, addressBytes, addressIn, addressLength}
 use Rattle.body.specs.Body.{longest, unchecked, bodyOf, short, judged, judgedLent, codeIn, dataIn}
-use Rattle.body.proofs.Anatomy.{address-length, unchecked-length, body-length}
+use Rattle.body.proofs.Anatomy.{body-length}
 use Rattle.body.proofs.Shortness.{three, address-inside, six, not-short}
 
 -- ---- what a good body is known to have
@@ -67,22 +68,22 @@ first-low body good = by-first (eqb (getD body 0 0) 0) refl
 
 module _ (code : ℕ) (data′ : List ℕ) where
   pub address-back : (address : Address) → legal address ≡ true → addressIn (bodyOf address code data′) ≡ address
-  unfolding legal addressIn bodyOf unchecked addressBytes
+  unfolding legal addressIn bodyOf unchecked addressBytes lowBytes
   address-back (Short byte) is-legal =
       let above = leb-true 1 byte (both-left (leb 1 byte) _ is-legal) in
       rw (ne-eqb byte 0 (λ (e : byte ≡ 0). omega arith))
   address-back (Serial serial) is-legal =
       let fits = leb-true serial 16_777_215 is-legal in
-      ap Serial (omega arith)
+      ap Serial (number-back 3 serial (omega arith))
 
   -- where the code stands, and where the data
   code-place : (address : Address) → getD (bodyOf address code data′) (addressLength address) 0 ≡ code
-  unfolding bodyOf unchecked addressBytes addressLength
+  unfolding bodyOf unchecked addressBytes lowBytes addressLength
   code-place (Short byte) = refl
   code-place (Serial serial) = refl
 
   data-place : (address : Address) → drop (addressLength address + 1) (unchecked address code data′) ≡ data′
-  unfolding unchecked addressBytes addressLength
+  unfolding unchecked addressBytes lowBytes addressLength
   data-place (Short byte) = refl
   data-place (Serial serial) = refl
 
@@ -107,7 +108,7 @@ module _ (code : ℕ) (data′ : List ℕ) where
 
   -- a body put together is not short
   long : (address : Address) → legal address ≡ true → short (bodyOf address code data′) ≡ false
-  unfolding legal bodyOf unchecked addressBytes addressLength
+  unfolding legal bodyOf unchecked addressBytes lowBytes addressLength
   long (Short byte) is-legal =
       let above = leb-true 1 byte (both-left (leb 1 byte) _ is-legal) in
       not-short (bodyOf (Short byte) code data′) (omega (arith, body-length (Short byte) code data′)) (λ (e : byte ≡ 0). omega arith)
@@ -133,20 +134,10 @@ first-four (a ∷ b ∷ []) h = absurd (omega arith)
 first-four (a ∷ b ∷ c ∷ []) h = absurd (omega arith)
 first-four (a ∷ b ∷ c ∷ d ∷ l) h = refl
 
--- three bytes make a serial, low byte first, and the serial is written as those bytes
-serial-spelled : (low middle high : ℕ) → low < 256 → middle < 256 → high < 256
-    → addressBytes (Serial (low + 256 * middle + 65_536 * high)) ≡ 0 ∷ low ∷ middle ∷ high ∷ []
-unfolding addressBytes
-serial-spelled low middle high l m h =
-    let serial = low + 256 * middle + 65_536 * high in
-    let a : serial % 256 ≡ low = omega arith in
-    let rest : serial / 256 ≡ middle + 256 * high = omega arith in
-    let b : (middle + 256 * high) % 256 ≡ middle = omega arith in
-    let top : serial / 65_536 ≡ high = omega arith in
-    let c : high % 256 ≡ high = omega arith in
-    rw (a, rest, b, top, c)
-
 module _ (body : List ℕ) (all : T (areBytes body)) where
+  three-bytes : T (areBytes (getD body 1 0 ∷ getD body 2 0 ∷ getD body 3 0 ∷ []))
+  three-bytes = rw (lt-ltb _ _ (byte-at body all 1), lt-ltb _ _ (byte-at body all 2), lt-ltb _ _ (byte-at body all 3)) tt
+
   -- the bytes that the address takes spell it
   spelled : short body ≡ false → take (addressLength (addressIn body)) body ≡ addressBytes (addressIn body)
   unfolding addressIn addressLength addressBytes
@@ -155,10 +146,10 @@ module _ (body : List ℕ) (all : T (areBytes body)) where
       by-first : (test : Bool) → eqb (getD body 0 0) 0 ≡ test → take (addressLength (addressIn body)) body ≡ addressBytes (addressIn body)
       by-first true zero-first =
           let is-zero = eqb-true (getD body 0 0) 0 zero-first in
+          let four = first-four body (omega (arith, six body enough is-zero)) in
           rw zero-first
-          (first-four body (omega (arith, six body enough is-zero))
-          ∙ ap (λ (n : ℕ). n ∷ getD body 1 0 ∷ getD body 2 0 ∷ getD body 3 0 ∷ []) is-zero
-          ∙ sym (serial-spelled _ _ _ (byte-at body all 1) (byte-at body all 2) (byte-at body all 3)))
+          (four ∙ ap (λ (n : ℕ). n ∷ getD body 1 0 ∷ getD body 2 0 ∷ getD body 3 0 ∷ []) is-zero
+          ∙ ap (λ (l : List ℕ). 0 ∷ l) (sym (bytes-back (getD body 1 0 ∷ getD body 2 0 ∷ getD body 3 0 ∷ []) three-bytes)))
       by-first false other = rw other (first-one body (omega (arith, address-inside body enough)))
 
   -- everything before the check

@@ -2,7 +2,7 @@
 -- Why: the two halves of refusal 1's test are both false.
 use Prim.Native.Nat.{ℕ, _+_, _≤_}
 use mathlib.Core.Path.{_≡_, refl}
-use mathlib.Core.Bool.{Bool, true, false, _&&_, _||_, true≢false}
+use mathlib.Core.Bool.{Bool, true, false, _&&_}
 use mathlib.Core.List.{List}
 use borrow.Author.Tests.{ltb-false, le-ltb, eq-eqb, eqb-true}
 use lib.Dec.{ltb, eqb}

@@ -1,10 +1,11 @@
 -- 01, "The frame": "Address: one byte 01 to 9F (002), or 00 and then three bytes of serial number, low byte first."
 -- Refusal 5: "address not 00 to 9F; writing also: short address 0, serial above 16,777,215".
-use Prim.Native.Nat.{ℕ, _+_, _*_, _/_, _%_}
+use Prim.Native.Nat.{ℕ}
 use mathlib.Core.Bool.{Bool, cond, _&&_}
 use mathlib.Core.List.{List, [], _∷_}
-use lib.ListN.{length, getD}
+use lib.ListN.{getD}
 use lib.Dec.{leb, eqb}
+use Rattle.low_first.specs.LowFirst.{lowFirst, lowBytes}
 use Rattle.body.specs.declared.addresses.Address.{Address}
 use Rattle.body.specs.declared.addresses.Address.the-variants.{Short, Serial}
 
@@ -20,11 +21,11 @@ legal (Serial serial) = leb serial 16_777_215
 -- an address as it stands on the wire
 unfoldable pub addressBytes : Address → List ℕ
 addressBytes (Short address) = address ∷ []
-addressBytes (Serial serial) = 0 ∷ serial % 256 ∷ serial / 256 % 256 ∷ serial / 65_536 % 256 ∷ []
+addressBytes (Serial serial) = 0 ∷ lowBytes 3 serial
 
 -- the address that a body begins with: a first byte 00 says that a serial follows
 unfoldable pub addressIn : List ℕ → Address
-addressIn body = cond (eqb (getD body 0 0) 0) (Serial (getD body 1 0 + 256 * getD body 2 0 + 65_536 * getD body 3 0)) (Short (getD body 0 0))
+addressIn body = cond (eqb (getD body 0 0) 0) (Serial (lowFirst (getD body 1 0 ∷ getD body 2 0 ∷ getD body 3 0 ∷ []))) (Short (getD body 0 0))
 
 -- how many bytes of a body its address takes
 unfoldable pub addressLength : Address → ℕ

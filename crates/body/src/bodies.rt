@@ -2,11 +2,12 @@
 use crate::addresses::Address;
 use crate::addresses::legal;
 use check_byte::feed_all;
+use low_first::word;
 use refusal::Refusal;
 use refusal::Verdict;
 ghost use mathlib.Core.Path.{_≡_};
 ghost use mathlib.Core.Bool.{false};
-ghost use Prim.Native.Nat.{_<_, _≤_};
+ghost use Prim.Native.Nat.{_≤_};
 ghost use Rattle.body.specs.Addresses.{addressIn, addressLength};
 ghost use Rattle.body.specs.Body.{short, checkRight, judgedIf, judged, partsOf, openedIf, openedBody};
 
@@ -40,12 +41,6 @@ fn is_short(body: &[u8]) -> bool
     body.len() < 6
 }
 
-fn wide(byte: u8) -> u32
-    ensures { λ r. ⌜ (r ≡ byte) × (r < 256) ⌝ }
-{
-    byte as u32
-}
-
 // The address that a body begins with.
 fn address_in(body: &[u8]) -> Address
     requires { ⌜ short (now body) ≡ false ⌝ }
@@ -55,10 +50,7 @@ fn address_in(body: &[u8]) -> Address
     if first != 0 {
         return Address::Short(first);
     }
-    let low = wide(body[1]);
-    let middle = wide(body[2]);
-    let high = wide(body[3]);
-    Address::Serial(low + 256 * middle + 65_536 * high)
+    Address::Serial(word(body[1], body[2], body[3], 0))
 }
 
 // How many bytes of a body its address takes.

@@ -1,13 +1,11 @@
 -- Shown: how long the data are whose length is right.
 -- Why: the length rule of a row is a test on the length.
-use Prim.Native.Nat.{ℕ, zero, suc, _≤_}
-use mathlib.Core.Path.{_≡_, refl, ap}
-use mathlib.Core.Bool.{Bool, true, false, _&&_}
-use mathlib.Core.List.{List, [], _∷_}
-use native.Mathlib.Nat.{suc-inj}
-use native.Mathlib.Omega.{arith}
+use Prim.Native.Nat.{ℕ, _≤_}
+use mathlib.Core.Path.{_≡_}
+use mathlib.Core.Bool.{true}
+use mathlib.Core.List.{List}
 use borrow.Author.Tests.{eqb-true, leb-true}
-use lib.ListN.{length, getD}
+use lib.ListN.{length}
 use Rattle.refusal.proofs.Booleans.{both-left}
 use Rattle.codes.specs.declared.table.Row.{Row}
 use Rattle.codes.specs.declared.table.Length.the-variants.{Exactly, Counted}

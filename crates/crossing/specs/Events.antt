@@ -1,5 +1,4 @@
 -- Events as they cross to another language, as numbers.
-use Prim.Native.Nat.{ℕ}
 use mathlib.Core.Bool.{cond}
 use lib.Dec.{eqb}
 use Rattle.refusal.specs.declared.Refusal.the-variants.{FieldOutside}

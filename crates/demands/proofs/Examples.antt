@@ -10,7 +10,7 @@ use Rattle.weight.specs.Bytes.{legal as legalReading, readOf}
 use Rattle.weight.specs.Tenths.{valueOf}
 use Rattle.codes.specs.Table.{lineIn, lineOf, rowOf}
 use Rattle.meaning.specs.Fields.{readIn}
-use Rattle.meaning.specs.Meaning.{lowFirst}
+use Rattle.low_first.specs.LowFirst.{lowFirst}
 use Rattle.meaning.specs.Judging.{judgedCode, judgedData, judgedMessage}
 use Rattle.message.specs.Reading.{messageOf, readMessage, readIf}
 use Rattle.demands.specs.Examples.{JudgedExamples}

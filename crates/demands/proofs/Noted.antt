@@ -13,7 +13,7 @@ use Rattle.refusal.specs.Numbers.{numberOf, refuseIf}
 use Rattle.check_byte.specs.Register.{received}
 use Rattle.body.specs.Addresses.{legal, addressIn}
 use Rattle.body.specs.Body.{longest, short, judged, judgedLent, codeIn, dataIn}
-use Rattle.line.specs.Listener.{State, Heard, Listener, Step, seeking, delimited, inside, held, nothing, frame, refused, keep, ended, hearIn, hear, tick}
+use Rattle.line.specs.Listener.{State, Heard, Step, seeking, delimited, inside, held, nothing, frame, refused, keep, ended, hearIn, hear, tick}
 use Rattle.codes.specs.declared.table.Role.{Role}
 use Rattle.codes.specs.Table.{rowOf, inTable}
 use Rattle.codes.specs.Lengths.{lengthOf, lengthRight}

@@ -1,6 +1,6 @@
 -- Shown: the reader hears what the paper's listener hears, byte by byte, block by block, over any cut; demand 3 holds of it; what was written reads back.
 -- Why: one byte is joined to the listener for every state, and a block is defined by its bytes.
-use Prim.Native.Nat.{ℕ, zero, suc, _+_, _≤_}
+use Prim.Native.Nat.{ℕ, suc, _+_, _≤_}
 use mathlib.Core.Path.{_≡_, _∙_, refl, sym, ap}
 use mathlib.Core.Bool.{not}
 use mathlib.Core.List.{List, [], _∷_, _++_}

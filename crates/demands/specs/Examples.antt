@@ -5,12 +5,11 @@ use mathlib.Core.Path.{_≡_}
 use mathlib.Core.Bool.{true, false}
 use mathlib.Core.List.{List, [], _∷_, _++_, map}
 use lib.ListN.{replicate}
-use lib.IntN.{ℤ, pos, negsuc}
+use lib.IntN.{pos, negsuc}
 use Rattle.refusal.specs.declared.Refusal.the-variants.{BodyShort, BodyLong, HeldBroken, CheckWrong, CodeUnknown}
 use Rattle.body.specs.declared.addresses.Address.the-variants.{Short}
 use Rattle.frame.specs.Stuffing.{framed}
 use Rattle.line.specs.Listener.{Heard, nothing, frame, refused, fresh, events}
-use Rattle.weight.specs.declared.Reading.{Reading}
 use Rattle.weight.specs.declared.Value.{Value}
 use Rattle.weight.specs.declared.Value.the-variants.{Tenths}
 use Rattle.weight.specs.Tenths.{valueOf}

@@ -5,15 +5,14 @@ use Prim.Native.Nat.{ℕ, _≤_}
 use mathlib.Core.Path.{_≡_}
 use mathlib.Core.Bool.{Bool, true, false}
 use mathlib.Core.List.{List, [], _∷_}
-use lib.Dec.{T, ltb}
+use lib.Dec.{T}
 use lib.ListN.{length, take}
 use lib.Seq.{slice}
 use lib.Pow.{areBytes}
 use Rattle.refusal.specs.declared.Refusal.{Refusal}
-use Rattle.refusal.specs.declared.Refusal.the-variants.{AddressIllegal, BodyLong, CodeUnknown, LengthWrong, FieldOutside, RoomShort}
+use Rattle.refusal.specs.declared.Refusal.the-variants.{AddressIllegal, CodeUnknown, LengthWrong, FieldOutside}
 use Rattle.refusal.specs.declared.Verdict.{Verdict}
 use Rattle.refusal.specs.declared.Verdict.the-variants.{Good, Refused}
-use Rattle.refusal.specs.Numbers.{refuseIf}
 use Rattle.room.specs.Writing.{Left, judgedRoom, wrote}
 use Rattle.body.specs.declared.addresses.Address.{Address}
 use Rattle.body.specs.Addresses.{legal}

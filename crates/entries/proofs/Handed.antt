@@ -11,7 +11,6 @@ use Rattle.refusal.specs.declared.Verdict.the-variants.{Good, Refused}
 use Rattle.body.specs.Body.{judged}
 use Rattle.line.specs.Listener.{State, Heard, Listener, Step, seeking, delimited, inside, held, nothing, frame, refused, keep, ended, hearIn, hear, tick, andThen, events}
 use Rattle.codes.specs.declared.table.Role.the-variants.{Reply}
-use Rattle.message.specs.declared.reading.Received.{Received}
 use Rattle.message.proofs.Checked.{handed-out as read-same}
 use Rattle.entries.specs.declared.entries.Entry.{Entry}
 use Rattle.entries.specs.Entries.{entryOf, entryHeard, entryIf}

@@ -14,7 +14,6 @@ use Rattle.line.specs.declared.places.Event.{Event}
 use Rattle.line.specs.declared.places.Event.the-variants as event-as
 use Rattle.line.proofs.places.Event as event-is
 use Rattle.line.specs.Readers.{heardAs}
-use Rattle.entries.specs.declared.entries.Entry.{Entry}
 use Rattle.entries.specs.declared.entries.Entry.the-variants.{Message}
 use Rattle.entries.specs.Entries.{messageEntry, entryIf, entryHeard}
 

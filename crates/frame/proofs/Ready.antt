@@ -16,11 +16,10 @@ use Rattle.refusal.specs.declared.Verdict.the-variants.{Good, Refused}
 use Rattle.refusal.specs.Numbers.{refuseIf}
 use Rattle.refusal.proofs.Verdicts.{refused-not-good, test-passed, rest-passed}
 use Rattle.room.specs.declared.Written.{Written}
-use Rattle.room.specs.Laying.{Laid, over}
+use Rattle.room.specs.Laying.{Laid}
 use Rattle.room.specs.Writing.{Leaves, refusedWrite}
 use Rattle.room.proofs.Over.{laid-front}
 use Rattle.body.specs.declared.addresses.Address.{Address}
-use Rattle.frame.specs.declared.writing.Needed.{Needed}
 use Rattle.frame.specs.declared.writing.Needed.the-variants as needed-as
 use Rattle.body.specs.Addresses.{legal}
 use Rattle.body.specs.Body.{bodyOf}

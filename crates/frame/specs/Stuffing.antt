@@ -1,6 +1,6 @@
 -- 01, "The frame": "Writing: one FF, the body, two FFs. After each FF inside the body one FE is inserted."
 -- "The room needed is body length + 3 + the number of FF bytes in the body."
-use Prim.Native.Nat.{ℕ, zero, suc, _+_}
+use Prim.Native.Nat.{ℕ, _+_}
 use mathlib.Core.Bool.{cond}
 use mathlib.Core.List.{List, [], _∷_, _++_}
 use lib.ListN.{length}

@@ -34,9 +34,10 @@ fn put_address(address: Address, room: &mut [u8]) -> usize
     match address {
         Address::Short(byte) => lay_byte(byte, room, 0),
         Address::Serial(serial) => {
+            let above = serial / 256;
             let low = (serial % 256) as u8;
-            let middle = (serial / 256 % 256) as u8;
-            let high = (serial / 65_536 % 256) as u8;
+            let middle = (above % 256) as u8;
+            let high = (above / 256 % 256) as u8;
             let bytes = [0, low, middle, high];
             lay(&bytes, room, 0)
         }

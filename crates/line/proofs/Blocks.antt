@@ -1,16 +1,15 @@
 -- Shown: what the block feeder goes by: one byte taken, the next turn, the stop at an event, the end of the block; and what a block tells.
 -- Why: a block is fed byte by byte by its definition, and each byte is joined to the paper's listener.
 use Prim.Native.Nat.{ℕ, suc, _+_, _≤_, _<_}
-use mathlib.Core.Path.{_≡_, _∙_, refl, sym, ap, subst}
+use mathlib.Core.Path.{_≡_, _∙_, refl, sym, ap}
 use mathlib.Core.Bool.{Bool, true, false, cond}
-use mathlib.Core.List.{List, [], _∷_, _++_}
+use mathlib.Core.List.{List, [], _∷_}
 use native.Mathlib.Omega.{arith}
 use native.Mathlib.Numerals.{add-one}
-use borrow.Author.Tests.{ltb-true, ltb-false, eq-eqb, ne-eqb}
+use borrow.Author.Tests.{ltb-false, eq-eqb, ne-eqb}
 use lib.Dec.{ltb}
 use lib.ListN.{length, drop, getD, drop-of-length-le}
 use lib.Seq.{drop-cons}
-use Rattle.room.specs.Laying.{over}
 use Rattle.line.specs.declared.places.Place.{Place}
 use Rattle.line.specs.declared.places.Moved.{Moved}
 use Rattle.line.specs.declared.places.Event.{Event}
@@ -19,9 +18,9 @@ use Rattle.line.specs.declared.listening.Went.{Went}
 use Rattle.line.specs.declared.reading.Reader.{Reader}
 use Rattle.line.specs.declared.reading.Taken.{Taken}
 use Rattle.line.specs.declared.reading.Fed.{Fed}
-use Rattle.line.specs.Listener.{Heard, nothing, frame, refused, Listener, hear, fresh}
-use Rattle.line.specs.Readers.{listening, view, freshPlace, keptOf, heardAs, taken, unless, fedFrom, fed, orElse, firstHeard, Takes, Feeds, fedLent, wentOf, Listens}
-use Rattle.line.specs.Steps.{soundPlace, movedOf, Keeps}
+use Rattle.line.specs.Listener.{Heard, Listener, hear}
+use Rattle.line.specs.Readers.{listening, view, freshPlace, heardAs, taken, unless, fedFrom, fed, orElse, firstHeard, Takes, Feeds, fedLent, wentOf, Listens}
+use Rattle.line.specs.Steps.{soundPlace, Keeps}
 use Rattle.line.proofs.Joined.{joined, told, step-length}
 
 -- ---- a state handed in with more than 255 kept

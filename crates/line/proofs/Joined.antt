@@ -1,11 +1,11 @@
 -- Shown: a state handed in and handed back stands for the paper's listener, byte by byte, for every state and every byte.
 -- Why: the kept bytes are read back from the array's front, and there are never more than 255 of them.
-use Prim.Native.Nat.{ℕ, _+_, _≤_}
-use mathlib.Core.Path.{_≡_, _∙_, refl, sym, ap, subst}
+use Prim.Native.Nat.{ℕ, _≤_}
+use mathlib.Core.Path.{_≡_, _∙_, refl, sym, ap}
 use mathlib.Core.Bool.{Bool, true, false, cond}
-use mathlib.Core.List.{List, [], _∷_, _++_}
+use mathlib.Core.List.{List, [], _∷_}
 use native.Mathlib.Omega.{arith}
-use borrow.Author.Tests.{le-ltb, lt-ltb, ltb-true, ltb-false}
+use borrow.Author.Tests.{le-ltb, ltb-true, ltb-false}
 use lib.Dec.{ltb, eqb}
 use lib.ListN.{length, take, drop, length-append, length-take, take-append-drop}
 use lib.Seq.{take-append-seam}
@@ -19,7 +19,7 @@ use Rattle.line.specs.declared.places.Phase.the-variants.{Seeking, Delim
 use Rattle.line.specs.declared.places.Place.{Place}
 use Rattle.line.specs.declared.places.Moved.{Moved}
 use Rattle.line.specs.declared.reading.Reader.{Reader}
-use Rattle.line.specs.Listener.{State, seeking, delimited, inside, held, Heard, nothing, frame, refused, Listener, Step, step, keep, ended, tick, hearIn, hear, fresh}
+use Rattle.line.specs.Listener.{State, seeking, delimited, inside, held, frame, Listener, Step, step, keep, ended, tick, hearIn, hear}
 use Rattle.line.specs.Readers.{stateOf, listening, view, phaseOf, keptOf, placeOf, eventOf, heardAs, taken}
 use Rattle.line.specs.Steps.{Keeps}
 

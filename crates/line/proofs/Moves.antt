@@ -9,7 +9,7 @@ use lib.Seq.{length-take-le}
 use Rattle.refusal.specs.declared.Refusal.the-variants.{HeldBroken}
 use Rattle.body.specs.Body.{judged}
 use Rattle.line.specs.declared.places.Phase.{Phase}
-use Rattle.line.specs.declared.places.Phase.the-variants.{Seeking, Delimited, Inside, Held}
+use Rattle.line.specs.declared.places.Phase.the-variants.{Seeking, Delimited, Held}
 use Rattle.line.specs.declared.places.Event.{Event}
 use Rattle.line.specs.declared.places.Event.the-variants.{Nothing, Refused}
 use Rattle.line.specs.declared.places.Place.{Place}

@@ -8,8 +8,6 @@ use lib.ListN.{length, take, replicate}
 use lib.Dec.{ltb, eqb}
 use Rattle.room.specs.Laying.{over}
 use Rattle.body.specs.Body.{longest}
-use Rattle.line.specs.declared.places.WirePlace.{WirePlace}
-use Rattle.line.specs.declared.places.BodyPlace.{BodyPlace}
 use Rattle.line.specs.declared.places.Phase.{Phase}
 use Rattle.line.specs.declared.places.Phase.the-variants.{Seeking, Delimited, Inside, Held}
 use Rattle.line.specs.declared.places.Event.{Event}
@@ -19,7 +17,7 @@ use Rattle.line.specs.declared.listening.Went.{Went}
 use Rattle.line.specs.declared.reading.Reader.{Reader}
 use Rattle.line.specs.declared.reading.Taken.{Taken}
 use Rattle.line.specs.declared.reading.Fed.{Fed}
-use Rattle.line.specs.Listener.{State, seeking, delimited, inside, held, Heard, nothing, frame, refused, Listener, Step, fresh, hear}
+use Rattle.line.specs.Listener.{State, seeking, delimited, inside, held, Heard, nothing, frame, refused, Listener, fresh, hear}
 
 -- ---- what a state handed in stands for
 

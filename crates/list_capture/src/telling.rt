@@ -5,7 +5,6 @@ use crate::page::front;
 use crate::page::put;
 use entries::Entry;
 use entries::heard_checked;
-use line::Event;
 use line::Reader;
 use listing::write_line;
 use listing::write_total;

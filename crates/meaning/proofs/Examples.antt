@@ -15,7 +15,8 @@ use Rattle.meaning.specs.declared.meaning.What.the-variants as says
 use Rattle.meaning.specs.declared.meaning.Told.{Told}
 use Rattle.meaning.specs.declared.meaning.Told.the-variants.{What, Refused}
 use Rattle.meaning.specs.Fields.{readIn}
-use Rattle.meaning.specs.Meaning.{lowFirst, onIn}
+use Rattle.meaning.specs.Meaning.{onIn}
+use Rattle.low_first.specs.LowFirst.{lowFirst}
 use Rattle.meaning.specs.Judging.{judgedCode, judgedData, judgedMessage, told}
 
 pub record Case : Type 0 where

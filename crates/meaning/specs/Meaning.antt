@@ -1,11 +1,12 @@
 -- 01, "Messages": what the data of each row say, as numbers, a reading, or the place of a text in the body.
-use Prim.Native.Nat.{ℕ, _+_, _*_}
+use Prim.Native.Nat.{ℕ, _+_}
 use mathlib.Core.List.{List, [], _∷_}
 use lib.ListN.{length, getD}
 use Rattle.body.specs.declared.addresses.Address.{Address}
 use Rattle.body.specs.Addresses.{addressLength}
 use Rattle.weight.specs.declared.Read.{Read}
 use Rattle.weight.specs.declared.Read.the-variants as read-as
+use Rattle.low_first.specs.LowFirst.{lowFirst}
 use Rattle.inputs.specs.On.{inputsOn}
 use Rattle.codes.specs.declared.table.Load.{Load}
 use Rattle.codes.specs.declared.table.Row.{Row}
@@ -14,11 +15,6 @@ use Rattle.meaning.specs.declared.meaning.Four.{Four}
 use Rattle.meaning.specs.declared.meaning.What.{What}
 use Rattle.meaning.specs.declared.meaning.What.the-variants as says
 use Rattle.meaning.specs.Fields.{readIn}
-
--- "low first"
-unfoldable pub lowFirst : List ℕ → ℕ
-lowFirst [] = 0
-lowFirst (byte ∷ rest) = byte + 256 * lowFirst rest
 
 -- four bytes in their order
 abbrev pub bytesOf : Four → List ℕ

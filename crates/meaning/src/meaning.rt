@@ -11,17 +11,19 @@ use codes::is_among;
 use codes::length_right;
 use codes::row_of;
 use inputs::count_on;
+use low_first::long;
+use low_first::word;
 use refusal::Refusal;
 use weight::Read;
 use weight::Reading;
 use weight::read_bytes;
 ghost use mathlib.Core.Path.{_≡_};
 ghost use mathlib.Core.Bool.{true};
-ghost use mathlib.Core.List.{[], _∷_};
-ghost use Prim.Native.Nat.{_≤_, _<_};
+ghost use Prim.Native.Nat.{_≤_};
 ghost use lib.ListN.{length};
+ghost use Rattle.low_first.specs.LowFirst.{lowFirst};
 ghost use Rattle.codes.specs.Lengths.{lengthOf, lengthRight};
-ghost use Rattle.meaning.specs.Meaning.{bytesOf, lowFirst};
+ghost use Rattle.meaning.specs.Meaning.{bytesOf};
 ghost use Rattle.meaning.specs.Judging.{within, said, told};
 
 // What a message says. A text, and the six bytes of an event, stand in the lent body from place `from` up to, not including, place `to`.
@@ -45,21 +47,6 @@ pub enum Told {
     Refused(Refusal),
 }
 
-// Four bytes as a number, low byte first.
-fn word(first: u8, second: u8, third: u8, fourth: u8) -> u32
-    ensures { λ r. ⌜ r ≡ lowFirst (first ∷ second ∷ third ∷ fourth ∷ []) ⌝ }
-{
-    let low = second as u32 * 256 + first as u32;
-    let high = fourth as u32 * 256 + third as u32;
-    high * 65_536 + low
-}
-
-fn wide(number: u32) -> u64
-    ensures { λ r. ⌜ (r ≡ number) × (r < 4_294_967_296) ⌝ }
-{
-    number as u64
-}
-
 // Three bytes, low byte first.
 fn serial_in(data: &[u8]) -> u32
     requires { ⌜ length (now «data») ≡ 3 ⌝ }
@@ -73,9 +60,9 @@ fn adc_in(data: &[u8]) -> u64
     requires { ⌜ length (now «data») ≡ 5 ⌝ }
     ensures { λ r. ⌜ r ≡ lowFirst (now («data» .entry)) ⌝ }
 {
-    let low = wide(word(data[0], data[1], data[2], data[3]));
-    let high = wide(word(data[4], 0, 0, 0));
-    high * 4_294_967_296 + low
+    let low = word(data[0], data[1], data[2], data[3]);
+    let high = word(data[4], 0, 0, 0);
+    long(low, high)
 }
 
 // Four bytes in their order.

@@ -1,8 +1,8 @@
 -- Shown: a body read by its own check is read as the paper reads it, and so is one that a line handed out, whose check is not made again.
 -- Why: the check is asked in one place, and a body judged good at its end had a right one.
 use Prim.Native.Nat.{ℕ}
-use mathlib.Core.Path.{_≡_, _∙_, refl, ap}
-use mathlib.Core.Bool.{Bool, true}
+use mathlib.Core.Path.{_≡_, refl}
+use mathlib.Core.Bool.{true}
 use mathlib.Core.List.{List}
 use borrow.Author.Tests.{eq-eqb}
 use Rattle.refusal.specs.declared.Verdict.the-variants.{Good}

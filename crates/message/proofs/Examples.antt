@@ -22,7 +22,7 @@ use Rattle.message.specs.declared.reading.Received.{Received}
 use Rattle.message.specs.declared.reading.Received.the-variants as received-as
 use Rattle.codes.specs.Table.{lineIn, lineOf, rowOf}
 use Rattle.meaning.specs.Fields.{readIn}
-use Rattle.meaning.specs.Meaning.{lowFirst}
+use Rattle.low_first.specs.LowFirst.{lowFirst, lowBytes}
 use Rattle.meaning.specs.Judging.{judgedCode, judgedData, judgedMessage}
 use Rattle.message.specs.Reading.{messageOf, readIf, readMessage}
 use Rattle.message.specs.Writing.{judgedMessageWrite}
@@ -82,5 +82,5 @@ texts =
 
 pub texts-judged : map (λ (text : Long). judgedMessageWrite Request (text .address) 0xD2 (0x01 ∷ text .count ∷ replicate (text .count) 0x41) []) texts
     ≡ map (λ (text : Long). verdict-as.Refused (text .answer)) texts
-unfolding judgedMessageWrite judgedMessage judgedCode judgedData rowOf lineOf lineIn legal bodyOf unchecked addressBytes needed countFF checkOf feedAll feedByte feedBits shiftIn
+unfolding judgedMessageWrite judgedMessage judgedCode judgedData rowOf lineOf lineIn legal bodyOf unchecked addressBytes lowBytes needed countFF checkOf feedAll feedByte feedBits shiftIn
 texts-judged = refl

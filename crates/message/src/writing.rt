@@ -7,7 +7,6 @@ use meaning::tell;
 use refusal::Refusal;
 use room::Written;
 use room::refused_write;
-ghost use mathlib.Core.Path.{_≡_};
 ghost use Rattle.room.specs.Writing.{Leaves};
 ghost use Rattle.message.specs.Writing.{writtenMessage};
 

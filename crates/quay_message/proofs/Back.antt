@@ -1,11 +1,10 @@
 -- Shown: a legal address that crosses comes back as itself, and the bytes that stand for no weight read as none.
 -- Why: a legal short address is not 0; no half of FF is a digit.
-use Prim.Native.Nat.{ℕ}
 use mathlib.Core.Path.{_≡_, refl}
-use mathlib.Core.Bool.{Bool, true, _&&_}
+use mathlib.Core.Bool.{true}
 use borrow.Author.Tests.{ne-eqb, leb-true}
 use native.Mathlib.Omega.{arith}
-use lib.Dec.{eqb, leb}
+use lib.Dec.{leb}
 use Rattle.refusal.specs.declared.Refusal.the-variants.{FieldOutside}
 use Rattle.refusal.proofs.Booleans.{both-left}
 use Rattle.body.specs.declared.addresses.Address.{Address}

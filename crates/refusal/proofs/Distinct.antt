@@ -1,6 +1,5 @@
 -- Shown: a refusal's number names that refusal, so two refusals with one number are the same: the number alone tells which it was.
 -- Why: the row with the number of a refusal is its own, case by case.
-use Prim.Native.Nat.{ℕ}
 use mathlib.Core.Path.{_≡_, _∙_, refl, sym, ap}
 use Rattle.refusal.specs.declared.Refusal.{Refusal}
 use Rattle.refusal.specs.declared.Refusal.the-variants.{BodyShort, BodyLong, HeldBroken, CheckWrong, AddressIllegal, CodeUnknown, LengthWrong, FieldOutside, RoomShort, LogLeftOver, RecordBroken}

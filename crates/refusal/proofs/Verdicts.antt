@@ -1,6 +1,6 @@
 -- Shown: a chain of tests says Good exactly where none of its tests holds, so what passed has every fact that the tests ask.
 -- Why: a test that holds refuses, and a refusal is not Good.
-use mathlib.Core.Path.{_≡_, _∙_, refl, sym, ap}
+use mathlib.Core.Path.{_≡_, refl, sym, ap}
 use mathlib.Core.Bool.{Bool, true, false, true≢false}
 use Rattle.refusal.specs.declared.Refusal.{Refusal}
 use Rattle.refusal.specs.declared.Verdict.{Verdict}

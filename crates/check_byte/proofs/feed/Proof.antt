@@ -1,7 +1,7 @@
 -- `check_byte::feed` meets its contract: a byte enters the register top bit first.
 -- Why: with `left` bits still to enter, what they make of the register is what all eight make of the first one.
 use Prim.Native.Nat.{ℕ, zero, suc, _≤_, _<_, _-_, _/_, _%_, _^_}
-use mathlib.Core.Path.{_≡_, _∙_, refl, ap}
+use mathlib.Core.Path.{_≡_, _∙_, ap}
 use native.Mathlib.Omega.{arith}
 use native.Mathlib.Nat.{not-suc-le-zero}
 use Rattle.check_byte.specs.Register.{shiftIn, feedBits, feedByte}

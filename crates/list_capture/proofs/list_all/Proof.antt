@@ -1,7 +1,6 @@
 -- `list_capture::list_all` is safe and ends. The measure is the number of turns that are left.
 -- From turn to turn block and page stay as long as they were lent.
 use mathlib.Core.Path.{_≡_}
-use native.Mathlib.Omega.{arith}
 use borrow.Author.Needs.{needs}
 use lib.ListN.{length}
 use Rattle.list_capture.proofs.list_all.Statement.{statement}

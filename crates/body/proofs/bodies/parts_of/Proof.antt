@@ -2,7 +2,7 @@
 -- Why: a body that is not short holds its address and two bytes more.
 use native.Mathlib.Omega.{arith}
 use Rattle.body.specs.Body.{partsOf, codeIn}
-use Rattle.body.proofs.Shortness.{three, six, address-inside}
+use Rattle.body.proofs.Shortness.{three, address-inside}
 use borrow.Author.Needs.{needs}
 use Rattle.body.proofs.bodies.parts_of.Statement.{statement}
 use Rattle.body.proofs.bodies.parts_of.Tie as tie

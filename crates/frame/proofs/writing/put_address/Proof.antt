@@ -1,5 +1,6 @@
 -- `frame::put_address` meets its contract: the bytes laid are the address as it stands on the wire.
 -- Why: in each arm the address is the constructor that the arm names.
+use Rattle.low_first.specs.LowFirst.{lowBytes}
 use Rattle.body.specs.Addresses.{addressBytes}
 use borrow.Author.Needs.{needs}
 use Rattle.frame.proofs.writing.put_address.Statement.{statement}
@@ -44,7 +45,7 @@ same-length-2 : tie.Need-same-length-2
 same-length-2 c = search needs
 
 returns-2 : tie.Need-returns-2
-unfolding addressBytes
+unfolding addressBytes lowBytes
 returns-2 c = rw (c .before .before .before .before .before .before .address2 .given .1) (c .before .before .lay .ensures)
 
 pub put-address-spec : {M : Type 1} → statement M

@@ -6,7 +6,6 @@ use Rattle.frame.specs.Preparing.{Prepared}
 use Rattle.body.specs.Body.{bodyOf}
 use lib.ListN.{length, take, replicate}
 use native.Mathlib.Nat.{sub-zero}
-use mathlib.Core.List.{List}
 use mathlib.Core.Path.{_≡_, _∙_, sym, ap}
 use Prim.Native.Nat.{ℕ, _-_}
 use native.Mathlib.Omega.{arith}

@@ -3,7 +3,6 @@
 use Rattle.line.proofs.Keeping.{ends-good, ends-refused}
 use native.Mathlib.Nat.{sub-zero}
 use native.Mathlib.Omega.{arith}
-use Rattle.line.specs.Listener.{ended}
 use borrow.Author.Needs.{needs}
 use Rattle.line.proofs.places.end_body.Statement.{statement}
 use Rattle.line.proofs.places.end_body.Tie as tie

@@ -1,7 +1,7 @@
 -- `list_capture::list_block` is safe and ends: each turn goes on inside the block.
 -- Why: a block that is not empty is heard by at least one byte, and never past its end.
 use Prim.Native.Nat.{_≤_, _-_}
-use mathlib.Core.Path.{_≡_, _∙_}
+use mathlib.Core.Path.{_≡_}
 use native.Mathlib.Omega.{arith}
 use borrow.Author.Needs.{needs}
 use lib.ListN.{length, length-take, length-drop}

@@ -2,15 +2,15 @@
 -- Why: the fifth stands 32 bits above the four before it.
 use mathlib.Core.Path.{ap}
 use native.Mathlib.Omega.{arith}
-use Rattle.meaning.specs.Meaning.{lowFirst}
+use Rattle.low_first.specs.LowFirst.{lowFirst}
 use Rattle.room.proofs.ByteLists.{by-place, placed}
 use borrow.Author.Needs.{needs}
 use Rattle.meaning.proofs.meaning.adc_in.Statement.{statement}
 use Rattle.meaning.proofs.meaning.adc_in.Tie as tie
 use Rattle.meaning.proofs.meaning.adc_in.Reads as reads
 use Rattle.meaning.proofs.meaning.adc_in.Lts as lts
-use Rattle.meaning.proofs.meaning.wide.Reads as wide-reads
-use Rattle.meaning.proofs.meaning.word.Reads as word-reads
+use Rattle.low_first.proofs.long.Reads as long-reads
+use Rattle.low_first.proofs.word.Reads as word-reads
 
 shared-slice-read-word : tie.Need-shared-slice-read-word
 shared-slice-read-word c = search needs
@@ -27,27 +27,18 @@ shared-slice-read-word-4 c = search needs
 word-requires : tie.Need-word-requires
 word-requires c κs = search needs
 
-wide-requires : tie.Need-wide-requires
-wide-requires c κs = search needs
-
 shared-slice-read-word-5 : tie.Need-shared-slice-read-word-5
 shared-slice-read-word-5 c = search needs
 
 word-requires-2 : tie.Need-word-requires-2
 word-requires-2 c κs = search needs
 
-wide-requires-2 : tie.Need-wide-requires-2
-wide-requires-2 c κs = search needs
-
-mul-result : tie.Need-mul-result
-mul-result c = search needs
-
-add-result : tie.Need-add-result
-add-result c = search needs
+long-requires : tie.Need-long-requires
+long-requires c κs = search needs
 
 returns : tie.Need-returns
 unfolding lowFirst placed
-returns c = omega (arith, c .wide2 .ensures .0, c .before .word2 .ensures, ap lowFirst (by-place 5 (c .before .before .before .before .before .before .before .before .before .before .args .«data» .now) (c .before .before .before .before .before .before .before .before .before .before .pre)))
+returns c = omega (arith, c .long .ensures, c .before .word2 .ensures, c .before .before .before .word .ensures, ap lowFirst (by-place 5 (c .before .before .before .before .before .before .before .before .before .args .«data» .now) (c .before .before .before .before .before .before .before .before .before .pre)))
 
 pub adc-in-spec : {M : Type 1} → statement M
 adc-in-spec =
@@ -58,10 +49,7 @@ adc-in-spec =
     shared-slice-read-word-3
     shared-slice-read-word-4
     word-requires
-    wide-requires
     shared-slice-read-word-5
     word-requires-2
-    wide-requires-2
-    mul-result
-    add-result
+    long-requires
     returns)

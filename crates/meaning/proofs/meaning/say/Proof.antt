@@ -19,7 +19,7 @@ use Rattle.meaning.proofs.meaning.judged.Reads as judged-reads
 use Rattle.meaning.proofs.meaning.say_event.Reads as say-event-reads
 use Rattle.meaning.proofs.meaning.say_text.Reads as say-text-reads
 use Rattle.meaning.proofs.meaning.serial_in.Reads as serial-in-reads
-use Rattle.meaning.proofs.meaning.word.Reads as word-reads
+use Rattle.low_first.proofs.word.Reads as word-reads
 use Rattle.codes.proofs.is_among.Reads as is-among-reads
 use Rattle.weight.proofs.read_bytes.Reads as read-bytes-reads
 

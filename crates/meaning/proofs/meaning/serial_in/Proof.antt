@@ -1,14 +1,14 @@
 -- `meaning::serial_in` meets its contract: three bytes as a number, low byte first.
 -- Why: they are four with a zero at the high end.
 use Rattle.room.proofs.ByteLists.{by-place, placed}
-use Rattle.meaning.specs.Meaning.{lowFirst}
+use Rattle.low_first.specs.LowFirst.{lowFirst}
 use mathlib.Core.Path.{_∙_, sym, ap}
 use borrow.Author.Needs.{needs}
 use Rattle.meaning.proofs.meaning.serial_in.Statement.{statement}
 use Rattle.meaning.proofs.meaning.serial_in.Tie as tie
 use Rattle.meaning.proofs.meaning.serial_in.Reads as reads
 use Rattle.meaning.proofs.meaning.serial_in.Lts as lts
-use Rattle.meaning.proofs.meaning.word.Reads as word-reads
+use Rattle.low_first.proofs.word.Reads as word-reads
 
 shared-slice-read-word : tie.Need-shared-slice-read-word
 shared-slice-read-word c = search needs

@@ -1,12 +1,12 @@
--- `meaning::word` meets its contract: four bytes as a number, low byte first.
+-- `low_first::word` meets its contract: four bytes as a number, low byte first.
 -- Why: two halves of 16 bits, put together.
 use native.Mathlib.Omega.{arith}
-use Rattle.meaning.specs.Meaning.{lowFirst}
+use Rattle.low_first.specs.LowFirst.{lowFirst}
 use borrow.Author.Needs.{needs}
-use Rattle.meaning.proofs.meaning.word.Statement.{statement}
-use Rattle.meaning.proofs.meaning.word.Tie as tie
-use Rattle.meaning.proofs.meaning.word.Reads as reads
-use Rattle.meaning.proofs.meaning.word.Lts as lts
+use Rattle.low_first.proofs.word.Statement.{statement}
+use Rattle.low_first.proofs.word.Tie as tie
+use Rattle.low_first.proofs.word.Reads as reads
+use Rattle.low_first.proofs.word.Lts as lts
 
 mul-low : tie.Need-mul-low
 mul-low c = search needs
