@@ -6,7 +6,10 @@ number of the rules paper's list, or is an event or a row of its own that has no
     reader = quay.Reader()
     for event in reader.feed(port.read()):        # Frame or LineRefusal; any cut of blocks gives the same events
         if isinstance(event, quay.Frame):
-            message = quay.read_message(event.body)
+            try:
+                message = quay.read_message(event.body)
+            except quay.Refused as refused:       # an echoed poll is 7: keep what it was refused for, and go on
+                print(refused)
 
     table = pandas.DataFrame(quay.rows(open('august.log', 'rb').read()))
 

@@ -5,7 +5,7 @@ use mathlib.Core.List.{List}
 use lib.ListN.{length, getD}
 use lib.Dec.{eqb, leb}
 use Rattle.codes.specs.declared.table.Row.{Row}
-use Rattle.codes.specs.declared.table.Row.the-variants.{Unknown, Empty, Serial, Number, Status, Weight, Inputs, Outputs, Text, Event, Adc, Error}
+use Rattle.codes.specs.declared.table.Row.the-variants.{Unknown, Empty, Serial, Number, Status, Weight, Inputs, Outputs, Text, Event, Converter, Error}
 use Rattle.codes.specs.declared.table.Length.{Length}
 use Rattle.codes.specs.declared.table.Length.the-variants.{Exactly, Counted}
 
@@ -21,7 +21,7 @@ lengthOf Inputs = Exactly 4
 lengthOf Outputs = Exactly 4
 lengthOf (Text numbers) = Counted
 lengthOf Event = Exactly 7
-lengthOf Adc = Exactly 5
+lengthOf Converter = Exactly 5
 lengthOf Error = Exactly 1
 
 -- "the length is wrong (7) if it is under 2 or isn't 2 plus the count byte"

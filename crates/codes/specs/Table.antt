@@ -10,7 +10,7 @@ use Rattle.codes.specs.declared.table.Load.the-variants.{Net, Gross}
 use Rattle.codes.specs.declared.table.Num.{Num}
 use Rattle.codes.specs.declared.table.Num.the-variants.{Printers, Indicators, Devices}
 use Rattle.codes.specs.declared.table.Row.{Row}
-use Rattle.codes.specs.declared.table.Row.the-variants.{Unknown, Empty, Serial, Number, Status, Weight, Inputs, Outputs, Text, Event, Adc, Error}
+use Rattle.codes.specs.declared.table.Row.the-variants.{Unknown, Empty, Serial, Number, Status, Weight, Inputs, Outputs, Text, Event, Converter, Error}
 use Rattle.codes.specs.declared.table.Line.{Line}
 
 -- a code, and its line: request data, reply data
@@ -34,7 +34,7 @@ table =
     ∷ row 0xC5 Empty Outputs
     ∷ row 0xC6 (Number Indicators) (Text Indicators)
     ∷ row 0xC7 Empty Event
-    ∷ row 0xCC Empty Adc
+    ∷ row 0xCC Empty Converter
     ∷ row 0xD0 Outputs Empty
     ∷ row 0xD2 (Text Devices) Empty
     ∷ row 0xEE Unknown Error
@@ -68,7 +68,7 @@ inTable Inputs = true
 inTable Outputs = true
 inTable (Text numbers) = true
 inTable Event = true
-inTable Adc = true
+inTable Converter = true
 inTable Error = true
 
 -- the values of NUM, by what it names. BF: "03 or 13"; "C6 follows 001: NUM is 1F, 20 or 21. D2 follows 000 and 001: NUM is 01, 02, 03, 13,

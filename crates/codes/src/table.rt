@@ -33,7 +33,7 @@ pub enum Row {
     Outputs, // 4 bytes, told or to be set
     Text(Num), // NUM, a count, that many characters
     Event, // EVENT, six bytes
-    Adc, // the converter's number, 5 bytes, unsigned, low first
+    Converter, // the converter's number, 5 bytes, unsigned, low first
     Error, // NER, the number of an error
 }
 
@@ -62,7 +62,7 @@ fn line_of(code: u8) -> Line
         0xC5 => Line(Row::Empty, Row::Outputs),
         0xC6 => Line(Row::Number(Num::Indicators), Row::Text(Num::Indicators)),
         0xC7 => Line(Row::Empty, Row::Event),
-        0xCC => Line(Row::Empty, Row::Adc),
+        0xCC => Line(Row::Empty, Row::Converter),
         0xD0 => Line(Row::Outputs, Row::Empty),
         0xD2 => Line(Row::Text(Num::Devices), Row::Empty),
         0xEE => Line(Row::Unknown, Row::Error),
@@ -96,7 +96,7 @@ pub fn in_table(row: Row) -> bool
         Row::Outputs => true,
         Row::Text(_) => true,
         Row::Event => true,
-        Row::Adc => true,
+        Row::Converter => true,
         Row::Error => true,
     }
 }
@@ -116,7 +116,7 @@ fn length_of(row: Row) -> Length
         Row::Outputs => Length::Exactly(4),
         Row::Text(_) => Length::Counted,
         Row::Event => Length::Exactly(7),
-        Row::Adc => Length::Exactly(5),
+        Row::Converter => Length::Exactly(5),
         Row::Error => Length::Exactly(1),
     }
 }

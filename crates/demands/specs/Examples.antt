@@ -47,7 +47,7 @@ weighed (says.Inputs bits on) later = later
 weighed (says.Outputs bits) later = later
 weighed (says.Text number from to) later = later
 weighed (says.Event event from to) later = later
-weighed (says.Adc count) later = later
+weighed (says.Converter count) later = later
 weighed (says.Error error) later = later
 
 abbrev pub valuesOf : List Received → List Value

@@ -32,7 +32,7 @@ no-weight address code (says.Inputs bits on) other = refl
 no-weight address code (says.Outputs bits) other = refl
 no-weight address code (says.Text number from to) other = refl
 no-weight address code (says.Event event from to) other = refl
-no-weight address code (says.Adc value) other = refl
+no-weight address code (says.Converter value) other = refl
 no-weight address code (says.Error error) other = refl
 
 -- an event without a body

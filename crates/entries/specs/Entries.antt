@@ -25,7 +25,7 @@ messageEntry address code (says.Inputs bits on) = Message address code
 messageEntry address code (says.Outputs bits) = Message address code
 messageEntry address code (says.Text number from to) = Message address code
 messageEntry address code (says.Event event from to) = Message address code
-messageEntry address code (says.Adc value) = Message address code
+messageEntry address code (says.Converter value) = Message address code
 messageEntry address code (says.Error error) = Message address code
 
 -- a body that was read, or the refusal it earned

@@ -7,7 +7,7 @@ use lib.Dec.{eqb, ltb}
 use Rattle.weight.specs.declared.Read.{Read}
 use Rattle.weight.specs.Bytes.{readOf, readable}
 use Rattle.codes.specs.declared.table.Row.{Row}
-use Rattle.codes.specs.declared.table.Row.the-variants.{Unknown, Empty, Serial, Number, Status, Weight, Inputs, Outputs, Text, Event, Adc, Error}
+use Rattle.codes.specs.declared.table.Row.the-variants.{Unknown, Empty, Serial, Number, Status, Weight, Inputs, Outputs, Text, Event, Converter, Error}
 use Rattle.codes.specs.Table.{among}
 
 -- W0 W1 W2 CON
@@ -25,5 +25,5 @@ fieldsRight Inputs data′ = true
 fieldsRight Outputs data′ = true
 fieldsRight (Text numbers) data′ = among numbers (getD data′ 0 0)
 fieldsRight Event data′ = not (eqb (getD data′ 0 0) 0x70)
-fieldsRight Adc data′ = true
+fieldsRight Converter data′ = true
 fieldsRight Error data′ = true

@@ -10,7 +10,7 @@ use Rattle.low_first.specs.LowFirst.{lowFirst}
 use Rattle.inputs.specs.On.{inputsOn}
 use Rattle.codes.specs.declared.table.Load.{Load}
 use Rattle.codes.specs.declared.table.Row.{Row}
-use Rattle.codes.specs.declared.table.Row.the-variants.{Unknown, Empty, Serial, Number, Status, Weight, Inputs, Outputs, Text, Event, Adc, Error}
+use Rattle.codes.specs.declared.table.Row.the-variants.{Unknown, Empty, Serial, Number, Status, Weight, Inputs, Outputs, Text, Event, Converter, Error}
 use Rattle.meaning.specs.declared.meaning.Four.{Four}
 use Rattle.meaning.specs.declared.meaning.What.{What}
 use Rattle.meaning.specs.declared.meaning.What.the-variants as says
@@ -45,5 +45,5 @@ meaning Inputs from data′ = says.Inputs (lowFirst data′) (onIn data′)
 meaning Outputs from data′ = says.Outputs (lowFirst data′)
 meaning (Text numbers) from data′ = says.Text (getD data′ 0 0) (from + 2) (from + length data′)
 meaning Event from data′ = says.Event (getD data′ 0 0) (from + 1) (from + length data′)
-meaning Adc from data′ = says.Adc (lowFirst data′)
+meaning Converter from data′ = says.Converter (lowFirst data′)
 meaning Error from data′ = says.Error (getD data′ 0 0)

@@ -37,7 +37,7 @@ pub enum What {
     Outputs(u32), // the first byte is the low one
     Text { number: u8, from: usize, to: usize },
     Event { event: u8, from: usize, to: usize },
-    Adc(u64), // the converter's number
+    Converter(u64), // the converter's number
     Error(u8), // NER, the number of an error
 }
 
@@ -56,7 +56,7 @@ fn serial_in(data: &[u8]) -> u32
 }
 
 // Five bytes, unsigned, low byte first.
-fn adc_in(data: &[u8]) -> u64
+fn converter_in(data: &[u8]) -> u64
     requires { ⌜ length (now «data») ≡ 5 ⌝ }
     ensures { λ r. ⌜ r ≡ lowFirst (now («data» .entry)) ⌝ }
 {
@@ -163,7 +163,7 @@ fn say(row: Row, from: usize, data: &[u8]) -> Told
         }
         Row::Text(numbers) => say_text(numbers, from, data),
         Row::Event => say_event(from, data),
-        Row::Adc => Told::What(What::Adc(adc_in(data))),
+        Row::Converter => Told::What(What::Converter(converter_in(data))),
         Row::Error => {
             let error = data[0];
             Told::What(What::Error(error))

@@ -41,7 +41,7 @@ fn sum_of_what(what: What) -> u64 {
         What::Outputs(bits) => bits as u64,
         What::Text { number, from, to } => sum_of_part(number, from, to),
         What::Event { event, from, to } => sum_of_part(event, from, to),
-        What::Adc(adc) => adc,
+        What::Converter(adc) => adc,
         What::Error(error) => error as u64,
     }
 }

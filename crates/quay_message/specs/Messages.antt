@@ -44,7 +44,7 @@ whatOut (says.Inputs bits on) = plain 5 bits on
 whatOut (says.Outputs bits) = plain 6 bits 0
 whatOut (says.Text number from to) = placed 7 number from to
 whatOut (says.Event event from to) = placed 8 event from to
-whatOut (says.Adc number) = plain 9 number 0
+whatOut (says.Converter number) = plain 9 number 0
 whatOut (says.Error error) = plain 10 error 0
 
 abbrev pub messageOut : Message → QuayMessage

@@ -113,7 +113,7 @@ fn what_out(what: What) -> QuayWhat
         What::Outputs(bits) => plain(6, bits as u64, 0),
         What::Text { number, from, to } => placed(7, number, from, to),
         What::Event { event, from, to } => placed(8, event, from, to),
-        What::Adc(number) => plain(9, number, 0),
+        What::Converter(number) => plain(9, number, 0),
         What::Error(error) => plain(10, error as u64, 0),
     }
 }

@@ -11,8 +11,7 @@ use weight::gross_less_net;
 use weight::read_bytes;
 use weight::value_of;
 ghost use mathlib.Core.Path.{_≡_};
-ghost use Rattle.weight.specs.Bytes.{readOf};
-ghost use Rattle.quay_weight.specs.Weights.{mark, goodReading, noReading, readingOut, valueOut, valueRead, differenceRead, kilogramsOut, kilogramsRead};
+ghost use Rattle.quay_weight.specs.Weights.{weightIn, mark, goodReading, noReading, readingOut, valueOut, valueRead, differenceRead, kilogramsOut, kilogramsRead};
 
 // What a terminal shows. The marks are 0 or 1. Refused, every other field is all ones: no such number and point are shown.
 #[repr(C)]
@@ -108,7 +107,7 @@ fn kilograms_out(weighed: Kilograms) -> QuayKilograms
 }
 
 fn read(weight: QuayWeight) -> Read
-    ensures { λ r. ⌜ r ≡ readOf (weight .w0) (weight .w1) (weight .w2) (weight .con) ⌝ }
+    ensures { λ r. ⌜ r ≡ weightIn weight ⌝ }
 {
     read_bytes(weight.w0, weight.w1, weight.w2, weight.con)
 }
@@ -116,7 +115,7 @@ fn read(weight: QuayWeight) -> Read
 // The reading of four bytes, or 8.
 #[no_mangle]
 pub extern "C" fn quay_read_weight(weight: QuayWeight) -> QuayReading
-    ensures { λ r. ⌜ r ≡ readingOut (readOf (weight .w0) (weight .w1) (weight .w2) (weight .con)) ⌝ }
+    ensures { λ r. ⌜ r ≡ readingOut (weightIn weight) ⌝ }
 {
     match read(weight) {
         Read::Good(reading) => good_reading(reading),
@@ -127,7 +126,7 @@ pub extern "C" fn quay_read_weight(weight: QuayWeight) -> QuayReading
 // The value of a weight in tenths of a milligram, or 8.
 #[no_mangle]
 pub extern "C" fn quay_value(weight: QuayWeight) -> QuayValue
-    ensures { λ r. ⌜ r ≡ valueOut (valueRead (readOf (weight .w0) (weight .w1) (weight .w2) (weight .con))) ⌝ }
+    ensures { λ r. ⌜ r ≡ valueOut (valueRead (weightIn weight)) ⌝ }
 {
     match read(weight) {
         Read::Good(reading) => value_out(value_of(reading)),
@@ -138,7 +137,7 @@ pub extern "C" fn quay_value(weight: QuayWeight) -> QuayValue
 // Gross less net in tenths of a milligram, or 8.
 #[no_mangle]
 pub extern "C" fn quay_difference(gross: QuayWeight, net: QuayWeight) -> QuayValue
-    ensures { λ r. ⌜ r ≡ valueOut (differenceRead (readOf (gross .w0) (gross .w1) (gross .w2) (gross .con)) (readOf (net .w0) (net .w1) (net .w2) (net .con))) ⌝ }
+    ensures { λ r. ⌜ r ≡ valueOut (differenceRead (weightIn gross) (weightIn net)) ⌝ }
 {
     match read(gross) {
         Read::Refused(why) => value_out(Value::Refused(why)),
@@ -152,7 +151,7 @@ pub extern "C" fn quay_difference(gross: QuayWeight, net: QuayWeight) -> QuayVal
 // A weight in kilograms as a 64-bit float, or 8.
 #[no_mangle]
 pub extern "C" fn quay_kilograms(weight: QuayWeight) -> QuayKilograms
-    ensures { λ r. ⌜ r ≡ kilogramsOut (kilogramsRead (readOf (weight .w0) (weight .w1) (weight .w2) (weight .con))) ⌝ }
+    ensures { λ r. ⌜ r ≡ kilogramsOut (kilogramsRead (weightIn weight)) ⌝ }
 {
     match read(weight) {
         Read::Good(reading) => kilograms_out(kilograms_of(reading)),

@@ -10,9 +10,6 @@ use crate::words::say_number;
 use crate::words::say_refusal;
 use crate::words::say_refused;
 use crate::words::say_small;
-use codes::Role;
-use line::Event;
-use message::Received;
 use records::Entry;
 use records::Record;
 use room::Written;
@@ -54,20 +51,12 @@ pub fn read(text: &[u8]) {
     }
 }
 
-// What an event of the line is to the log: a frame's body is read in a role, and a refusal is one.
-fn received(role: Role, event: Event, body: &[u8]) -> Received {
-    if let Event::Refused(why, _, _) = event {
-        return Received::Refused(why);
-    }
-    message::read(role, body)
-}
-
 // Body, eight bytes of the time, role and event; the record they make.
 pub fn heard(text: &[u8]) {
     let time = take_number();
     let role = take_role();
     let event = take_event();
-    match weighing_log::record_of(time, received(role, event, text)) {
+    match weighing_log::note(time, role, event, text) {
         Noted::Nothing => say_small(0),
         Noted::Record(record) => {
             say_small(1);

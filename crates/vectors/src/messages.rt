@@ -47,7 +47,7 @@ fn say_one(what: What) {
         What::Number(number) => say_tagged(2, number as u64),
         What::Status(status) => say_tagged(3, status as u64),
         What::Outputs(bits) => say_tagged(6, bits as u64),
-        What::Adc(number) => say_tagged(9, number),
+        What::Converter(number) => say_tagged(9, number),
         What::Error(error) => say_tagged(10, error as u64),
         _ => say_small(0),
     }

@@ -2,7 +2,7 @@
 -- Why: in each arm the row is the one that the arm names, its length tells that the bytes are there, and its test is the row's.
 use mathlib.Core.Path.{refl}
 use native.Mathlib.Omega.{arith}
-use Rattle.codes.specs.declared.table.Row.the-variants.{Serial, Number, Status, Weight, Inputs, Outputs, Event, Adc, Error}
+use Rattle.codes.specs.declared.table.Row.the-variants.{Serial, Number, Status, Weight, Inputs, Outputs, Event, Converter, Error}
 use Rattle.meaning.specs.Fields.{readIn}
 use Rattle.meaning.specs.Meaning.{onIn}
 use Rattle.meaning.specs.Judging.{said}
@@ -13,7 +13,7 @@ use Rattle.meaning.proofs.meaning.say.Tie as tie
 use Rattle.meaning.proofs.meaning.say.Reads as reads
 use Rattle.meaning.proofs.meaning.say.Lts as lts
 use Rattle.inputs.proofs.count_on.Reads as count-on-reads
-use Rattle.meaning.proofs.meaning.adc_in.Reads as adc-in-reads
+use Rattle.meaning.proofs.meaning.converter_in.Reads as converter-in-reads
 use Rattle.meaning.proofs.meaning.four_in.Reads as four-in-reads
 use Rattle.meaning.proofs.meaning.judged.Reads as judged-reads
 use Rattle.meaning.proofs.meaning.say_event.Reads as say-event-reads
@@ -107,8 +107,8 @@ say-event-requires c κs = (exactly Event 7 _ (c .enum-told8 .given .1) refl (c 
 enum-told-9 : tie.Need-enum-told-9
 enum-told-9 c = search needs
 
-adc-in-requires : tie.Need-adc-in-requires
-adc-in-requires c κs = exactly Adc 5 _ (c .enum-told9 .given .1) refl (c .before .before .before .pre .0)
+converter-in-requires : tie.Need-converter-in-requires
+converter-in-requires c κs = exactly Converter 5 _ (c .enum-told9 .given .1) refl (c .before .before .before .pre .0)
 
 enum-told-10 : tie.Need-enum-told-10
 enum-told-10 c = search needs
@@ -160,7 +160,7 @@ returns-11 c = rw (c .before .enum-told8 .given .1) (c .say-event .ensures)
 
 returns-12 : tie.Need-returns-12
 unfolding said
-returns-12 c = rw (c .before .enum-told9 .given .1, c .adc-in .ensures)
+returns-12 c = rw (c .before .enum-told9 .given .1, c .converter-in .ensures)
 
 returns-13 : tie.Need-returns-13
 unfolding said
@@ -198,7 +198,7 @@ say-spec =
     enum-told-8
     say-event-requires
     enum-told-9
-    adc-in-requires
+    converter-in-requires
     enum-told-10
     shared-slice-read-error
     returns

@@ -1,14 +1,14 @@
--- `meaning::adc_in` meets its contract: five bytes as a number, low byte first.
+-- `meaning::converter_in` meets its contract: five bytes as a number, low byte first.
 -- Why: the fifth stands 32 bits above the four before it.
 use mathlib.Core.Path.{ap}
 use native.Mathlib.Omega.{arith}
 use Rattle.low_first.specs.LowFirst.{lowFirst}
 use Rattle.room.proofs.ByteLists.{by-place, placed}
 use borrow.Author.Needs.{needs}
-use Rattle.meaning.proofs.meaning.adc_in.Statement.{statement}
-use Rattle.meaning.proofs.meaning.adc_in.Tie as tie
-use Rattle.meaning.proofs.meaning.adc_in.Reads as reads
-use Rattle.meaning.proofs.meaning.adc_in.Lts as lts
+use Rattle.meaning.proofs.meaning.converter_in.Statement.{statement}
+use Rattle.meaning.proofs.meaning.converter_in.Tie as tie
+use Rattle.meaning.proofs.meaning.converter_in.Reads as reads
+use Rattle.meaning.proofs.meaning.converter_in.Lts as lts
 use Rattle.low_first.proofs.long.Reads as long-reads
 use Rattle.low_first.proofs.word.Reads as word-reads
 
@@ -40,8 +40,8 @@ returns : tie.Need-returns
 unfolding lowFirst placed
 returns c = omega (arith, c .long .ensures, c .before .word2 .ensures, c .before .before .before .word .ensures, ap lowFirst (by-place 5 (c .before .before .before .before .before .before .before .before .before .args .«data» .now) (c .before .before .before .before .before .before .before .before .before .pre)))
 
-pub adc-in-spec : {M : Type 1} → statement M
-adc-in-spec =
+pub converter-in-spec : {M : Type 1} → statement M
+converter-in-spec =
     tie.close
     (tie.spec
     shared-slice-read-word
