@@ -1,7 +1,8 @@
 /* The quay reader for C and C++: the fourteen functions of libquay.a.
  *
  * A weight that wasn't heard never looks like a weight of nothing. So each answer has a field `refusal` (of a step, in its item): 0, or a number of the rules paper's
- * list, and where it is not 0 no other field can pass for a weight: a value is INT64_MIN, kilograms are not a number, weight bytes are FF.
+ * list, and where it is not 0 no other field can pass for a weight: a value is INT64_MIN, kilograms are not a number, weight bytes are FF. So are
+ * the weight bytes of a record that notes a refusal (kind 3), though that record was read and its own `refusal` is 0.
  * Ask `refusal` first all the same.
  *
  * Proved are the functions in the archive (crates/quay_*): each for every value of every argument, under the rules below. NOT proved is this
@@ -148,12 +149,12 @@ typedef struct QuayListed {
     uint8_t refusal;
 } QuayListed;
 
-/* What a message says. Fields that it does not have are 0, and a weight that it does not have is four times FF. */
+/* What a message says. A number, a count or a weight that it does not have is all ones: no terminal says such a one. */
 typedef struct QuayWhat {
-    uint64_t number;
-    size_t from; /* where in the lent body a text or an event's bytes begin */
-    size_t to;   /* the place behind them */
-    uint32_t on;
+    uint64_t number; /* UINT64_MAX where none is said: in a weight, and where the message was refused */
+    size_t from;     /* where in the lent body a text or an event's bytes begin; 0 where there are none */
+    size_t to;       /* the place behind them */
+    uint32_t on;     /* UINT32_MAX where no inputs are said */
     QuayWeight weight;
     uint8_t load;
     uint8_t says;
@@ -169,14 +170,15 @@ typedef struct QuayMessage {
     uint8_t refusal;
 } QuayMessage;
 
-/* A record of a log. Kind 0 is no record, and has weight bytes FF: refused where `refusal` is not 0, else there was none to tell. */
+/* A record of a log. Kind 0 is no record: refused where `refusal` is not 0, else there was none to tell. What is no weighing, kinds 0 and 3,
+ * has weight bytes FF, which read as no weight: ask `kind` before you ask for a weight. */
 typedef struct QuayRecord {
     uint64_t time;
     uint32_t serial;
     uint8_t kind;
     uint8_t address;
     uint8_t status;     /* CON of a weight; of QUAY_RECORD_REFUSED the refusal's number */
-    uint8_t w0, w1, w2;
+    uint8_t w0, w1, w2; /* FF unless the kind is 1 or 2 */
     uint8_t refusal;
 } QuayRecord;
 
@@ -210,8 +212,8 @@ QuayWritten quay_write_message(uint8_t role, uint8_t short_address, uint32_t ser
                                uint8_t *room, size_t room_length);
 
 /* Reads a body (address, code, data, check; no delimiters) in a role. Its check is made here, also for a body that quay_listen handed out.
- * Refusals: 8 where the role is none; then 2 (over 255 bytes), 1, 4, 5, 6, 7, 8, in this order. Refused, every other field is 0 and the
- * weight four times FF. */
+ * Refusals: 8 where the role is none; then 2 (over 255 bytes), 1, 4, 5, 6, 7, 8, in this order. Refused, the number and
+ * `on` are all ones, the weight four times FF and every other field 0. */
 QuayMessage quay_read_message(uint8_t role, const uint8_t *body, size_t body_length);
 
 /* ---- weights. Refusal: 8, a half of W0, W1 or W2 that is no decimal digit. CON is any byte. */
@@ -230,7 +232,8 @@ QuayKilograms quay_kilograms(QuayWeight weight);
 
 /* ---- the log */
 
-/* Writes a record's 20 bytes. Refusals: 11 (a record that breaks a rule, kind 0, or one that carries a refusal), 9, in this order. */
+/* Writes a record's 20 bytes. In a record of kind 3 the weight bytes FF FF FF and 00 00 00 both stand for the zeros that it has on disk.
+ * Refusals: 11 (a record that breaks a rule, kind 0, or one that carries a refusal), 9, in this order. */
 QuayWritten quay_write_record(QuayRecord item, uint8_t *room, size_t room_length);
 
 /* Reads a record of 20 bytes. Refusal: 11, also for more bytes or fewer. */
@@ -243,7 +246,7 @@ QuayStepped quay_step(const uint8_t *log, size_t log_length, size_t place);
 /* The record that an event makes at a time, in the role in which the line is read: a gross or net reply, or a refusal by 1 to 8 of the line
  * or of its message. Kind 0 and no refusal where it makes none. Of a frame, its body is the first event.kept of the lent bytes (all of them
  * where they are fewer), and is judged again, check and all.
- * Refusals: 8 where the role is none, or the event's kind, or the number of its refusal (the numbers of enum quay_refusal are refusals). */
+ * Refusals: 8 where the role is none, or the event's kind, or the number of its refusal: a line meets 1 to 8 and no other. */
 QuayRecord quay_record_heard(uint64_t time, uint8_t role, QuayEvent event, const uint8_t *body, size_t body_length);
 
 /* ---- the listing */
@@ -251,7 +254,8 @@ QuayRecord quay_record_heard(uint64_t time, uint8_t role, QuayEvent event, const
 /* Writes the line of an event, newline and all, as the event of that number; the line is read as replies. Where there was no event there is
  * no line: length 0, entry 0, no refusal. Of a frame, its body is the first event.kept of the lent bytes (all of them where they are fewer),
  * and is judged again, check and all: other bytes than those that were heard list as the refusal they earn.
- * Refusals: 8 where the event's kind is none, or the number of its refusal (entry 0 then); 9 (entry as if it had fitted), in this order. */
+ * Refusals: 8 where the event's kind is none, or the number of its refusal, which is 1 to 8 (entry 0 then); 9 (entry as if it had fitted),
+ * in this order. */
 QuayListed quay_list_event(uint64_t number, QuayEvent event, const uint8_t *body, size_t body_length, uint8_t *room, size_t room_length);
 
 /* Writes the total line: all events, weights and refusals of the listing. Refusal: 9. */

@@ -19,6 +19,9 @@ REFUSAL_RECORD = 3
 # A number that is no refusal's: a record that carries it is refused by 11.
 NO_REFUSAL = 0
 
+# The weight bytes of what is no weighing.
+NO_DIGITS = (255, 255, 255)
+
 
 @dataclass(frozen=True)
 class Weighing:
@@ -45,7 +48,7 @@ class RefusalMet:
         """The record as the library takes it. A number that is not even a byte is no refusal's."""
         number = operator.index(self.number)
         status = number if 0 <= number <= HIGHEST_BYTE else NO_REFUSAL
-        return QuayRecord(_seconds(self.time), 0, REFUSAL_RECORD, 0, status, 0, 0, 0, 0)
+        return QuayRecord(_seconds(self.time), 0, REFUSAL_RECORD, 0, status, *NO_DIGITS, 0)
 
 
 Record = Union[Weighing, RefusalMet]

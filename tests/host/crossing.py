@@ -19,7 +19,7 @@ import listing  # noqa: E402
 import log  # noqa: E402
 import message  # noqa: E402
 import weight  # noqa: E402
-from refusals import ACCEPTED, ALL as REFUSALS, FIELD_WRONG, RECORD_WRONG  # noqa: E402
+from refusals import ACCEPTED, ALL as REFUSALS, FIELD_WRONG, RECORD_WRONG  # noqa: E402 (REFUSALS: for those who make inputs)
 
 PHASES = ('seeking', 'delimited', 'inside', 'held')
 NOTHING, FRAME, REFUSED = 0, 1, 2
@@ -27,6 +27,8 @@ ENTRIES = {'weight': 1, 'message': 2, 'refused': 3}
 LOADS = {message.GROSS: 1, message.NET: 2}
 
 ALL_ONES = 0xFFFFFFFF
+NO_NUMBER = 0xFFFFFFFFFFFFFFFF
+NO_COUNT = ALL_ONES
 NO_READING = (ALL_ONES,) + (255,) * 6
 NO_VALUE = -2 ** 63
 NO_WEIGHT = b'\xff\xff\xff\xff'
@@ -77,12 +79,13 @@ def listen(phase: int, wire: int, kept: int, body: bytes, block: bytes) -> Answe
 
 
 def event_given(kind: int, refusal: int, wire: int, kept: int, body: bytes) -> tuple[int, line.Event | None]:
-    """An event handed in, its body at the front of the lent bytes, or as many of them as there are. 8 where it is none."""
+    """An event handed in, its body at the front of the lent bytes, or as many of them as there are. 8 where it is none, or a refusal that
+    no line can meet."""
     if kind == NOTHING:
         return ACCEPTED, None
     if kind == FRAME:
         return ACCEPTED, line.Event(ACCEPTED, wire, kept, body[:kept])
-    if kind == REFUSED and refusal in REFUSALS:
+    if kind == REFUSED and refusal in log.LINE_REFUSALS:
         return ACCEPTED, line.Event(refusal, wire, kept, b'')
     return FIELD_WRONG, None
 
@@ -101,24 +104,24 @@ def write_message(role: int, short: int, serial: int, code: int, data: bytes, ro
     return message.write_message(message.ROLES[role], address_of(short, serial), code, data, lent) + (bytes(lent),)
 
 
-def plain(says: int, number: int, on: int = 0) -> Answer:
+def plain(says: int, number: int = NO_NUMBER, on: int = NO_COUNT) -> Answer:
     return (says, number, on, 0, NO_WEIGHT, 0, 0)
 
 
 # What a row of the table says of its data, which begin at `start` of the body:
 # says, number, on, load, weight, and from where to where a text stands.
 SAYS = {
-    message.NONE: lambda start, code, data: plain(0, 0),
+    message.NONE: lambda start, code, data: plain(0),
     message.SERIAL: lambda start, code, data: plain(1, message.low_first(data)),
     message.PRINTER: lambda start, code, data: plain(2, data[0]),
     message.DISPLAY: lambda start, code, data: plain(2, data[0]),
     message.STATUS: lambda start, code, data: plain(3, data[0]),
-    message.WEIGHT: lambda start, code, data: (4, 0, 0, LOADS[code], data, 0, 0),
+    message.WEIGHT: lambda start, code, data: (4, NO_NUMBER, NO_COUNT, LOADS[code], data, 0, 0),
     message.INPUTS: lambda start, code, data: plain(5, message.low_first(data), message.inputs_on(data)),
     message.FOUR_BYTES: lambda start, code, data: plain(6, message.low_first(data)),
-    message.DISPLAY_TEXT: lambda start, code, data: (7, data[0], 0, 0, NO_WEIGHT, start + 2, start + len(data)),
-    message.TEXT: lambda start, code, data: (7, data[0], 0, 0, NO_WEIGHT, start + 2, start + len(data)),
-    message.EVENT: lambda start, code, data: (8, data[0], 0, 0, NO_WEIGHT, start + 1, start + len(data)),
+    message.DISPLAY_TEXT: lambda start, code, data: (7, data[0], NO_COUNT, 0, NO_WEIGHT, start + 2, start + len(data)),
+    message.TEXT: lambda start, code, data: (7, data[0], NO_COUNT, 0, NO_WEIGHT, start + 2, start + len(data)),
+    message.EVENT: lambda start, code, data: (8, data[0], NO_COUNT, 0, NO_WEIGHT, start + 1, start + len(data)),
     message.FIVE_BYTES: lambda start, code, data: plain(9, message.low_first(data)),
     message.ERROR: lambda start, code, data: plain(10, data[0]),
 }
@@ -126,10 +129,10 @@ SAYS = {
 
 def read_message(role: int, body: bytes) -> Answer:
     if role >= len(message.ROLES):
-        return (FIELD_WRONG, 0, 0, 0, 0, 0) + plain(0, 0)
+        return (FIELD_WRONG, 0, 0, 0, 0, 0) + plain(0)
     answer = message.read_message(message.ROLES[role], body)
     if answer[0] != ACCEPTED:
-        return (answer[0], 0, 0, 0, 0, 0) + plain(0, 0)
+        return (answer[0], 0, 0, 0, 0, 0) + plain(0)
     _, address, code, data, _ = answer
     start = len(frame.address_bytes(address)) + 1
     said = SAYS[message.row(message.ROLES[role], code)](start, code, data)
@@ -173,7 +176,19 @@ def no_record(refusal: int) -> Answer:
 
 
 def record_words(record: log.Record | None) -> Answer:
-    return no_record(ACCEPTED) if record is None else (ACCEPTED,) + tuple(record)
+    """What is no weighing has no digits: a refusal that was met must not cross as a weight of nothing."""
+    if record is None:
+        return no_record(ACCEPTED)
+    if record.kind == log.KIND_REFUSED:
+        record = record._replace(weight=NO_DIGITS)
+    return (ACCEPTED,) + tuple(record)
+
+
+def record_given(time: int, kind: int, address: int, serial: int, status: int, digits: bytes) -> log.Record:
+    """A record handed in: where it is no weighing, no digits stand for its zeros."""
+    weighing = kind in (log.KIND_GROSS, log.KIND_NET)
+    weight = log.NO_WEIGHT if digits == NO_DIGITS and not weighing else digits
+    return log.Record(time, kind, address, serial, status, weight)
 
 
 def write_record(time: int, kind: int, address: int, serial: int, status: int, digits: bytes, carried: int, room: bytes) -> Answer:
@@ -181,7 +196,7 @@ def write_record(time: int, kind: int, address: int, serial: int, status: int, d
     if carried != ACCEPTED:
         return (RECORD_WRONG, 0, room)
     lent = bytearray(room)
-    return log.write_record(log.Record(time, kind, address, serial, status, digits), lent) + (bytes(lent),)
+    return log.write_record(record_given(time, kind, address, serial, status, digits), lent) + (bytes(lent),)
 
 
 def read_record(lent: bytes) -> Answer:
@@ -203,15 +218,13 @@ def step(whole: bytes, place: int) -> Answer:
 
 
 def record_heard(time: int, role: int, kind: int, refusal: int, wire: int, kept: int, body: bytes) -> Answer:
-    """A refusal that isn't met on the line (9, 10, 11) makes no record."""
+    """A role that is none is refused ahead of an event that is none."""
     if role >= len(message.ROLES):
         return no_record(FIELD_WRONG)
     number, event = event_given(kind, refusal, wire, kept, body)
     if number != ACCEPTED:
         return no_record(number)
-    if event is None or event.number not in (ACCEPTED, *log.LINE_REFUSALS):
-        return no_record(ACCEPTED)
-    return record_words(log.record_heard(time, message.ROLES[role], event))
+    return record_words(None if event is None else log.record_heard(time, message.ROLES[role], event))
 
 
 # ---- the listing

@@ -116,6 +116,10 @@ def records_written() -> Iterator[Case]:
             yield ('write_record', *record, carried, MARKS[:19])
     for refusal in (0, 8):
         yield ('write_record', 0, 0, 0, 0, 0, crossing.NO_DIGITS, refusal, MARKS[:20])
+    for kind in (*range(5), 255):
+        for digits in ('ffffff', '000000', 'ffff00', '00ffff', 'ff0000', '0000ff', '010000'):
+            for status in (0, 4, 8, 9, 255):
+                yield ('write_record', 7, kind, 0, 0, status, bytes.fromhex(digits), 0, MARKS[:20])
 
 
 def records_read() -> Iterator[Case]:

@@ -1,7 +1,7 @@
 """Cases of the check byte, of bodies, and of frames written into lent room."""
 
 from check_byte import check_of, fed, register_of
-from frame import (address_is_legal, body_of, frame_of, judge_heard, judge_lent, open_body, room_needed, stuffed,
+from frame import (address_is_legal, body_of, frame_of, judge_lent, open_body, room_needed, stuffed,
                    write_frame)
 from captures import PAPER, body_of_length, body_with_check_ff
 from good_messages import some_address
@@ -11,6 +11,7 @@ ADDRESSES = tuple(('short', number) for number in (0, 1, 2, 0x7F, 0x9E, 0x9F, 0x
     + tuple(('serial', number) for number in (
         0, 1, 254, 255, 256, 0xFFFF, 0xFF00FF, 0xFFFFFE, 0xFFFFFF, 0x1000000, 0x1000001, 2 ** 32 - 1))
 FIRST_BYTES = (0x00, 0x01, 0x02, 0x9F, 0xA0, 0xFD, 0xFE, 0xFF)
+LONG_LENGTHS = (255, 256, 257, 300, 600)  # the last that a body may have, and past it
 
 
 def marked_room(length):
@@ -79,11 +80,22 @@ def overlong_bodies(source):
     yield bytes(256)
 
 
+def long_bodies():
+    """At 255 bytes and past them, every first byte, a right check and wrong
+    ones: past 255 it is 2 whatever the check and the address."""
+    for length in LONG_LENGTHS:
+        for first in FIRST_BYTES:
+            unchecked = bytes([first]) + marked_room(length - 2)
+            check = check_of(unchecked)
+            for change in (0x00, 0x01, 0xFF):
+                yield unchecked + bytes([check ^ change])
+
+
 def body_cases(source):
-    bodies = list(judged_bodies(source))
+    bodies = list(judged_bodies(source)) + list(overlong_bodies(source))
+    for body in long_bodies():
+        yield ('judge_lent', (body,), (judge_lent(body),))
     for body in bodies:
-        yield ('judge_heard', (body,), (judge_heard(body),))
-    for body in bodies + list(overlong_bodies(source)):
         yield ('judge_lent', (body,), (judge_lent(body),))
         opened = open_body(body)
         if len(opened) > 1:

@@ -8,8 +8,10 @@ from good_messages import ROWS, good_data
 from line import Event, hear
 from listing import event_line, listing_of, total_line, write_line, write_total
 from random_bytes import RandomBytes
+from refusals import ALL, LINE_REFUSALS
 
 COUNTS = (1, 2, 9, 10, 99, 100, 65_535, 10 ** 9, 2 ** 64 - 1)
+UNMET = tuple(number for number in ALL if number not in LINE_REFUSALS)  # by no line
 
 
 def heard(body):
@@ -42,6 +44,20 @@ def line_cases(source):
             yield written('write_line', write_line, (count, event), length)
 
 
+def handed_in_cases():
+    """Refusals handed in as events: 1 to 8 list, of the frame layer and of the
+    message layer; the others are 8, ahead of 9, whatever the room."""
+    for number in ALL:
+        for count in (1, 10, 2 ** 64 - 1):
+            event = Event(number, 12, 3, b'')
+            need = len(event_line(count, event))
+            for length in (need, need - 1, need + 5, 0):
+                yield written('write_line', write_line, (count, event), length)
+    for number in UNMET:
+        for length in (1, 100):
+            yield written('write_line', write_line, (7, Event(number, 2 ** 64 - 1, 255, b'')), length)
+
+
 def total_cases():
     for events, weights, refusals in ((0, 0, 0), (3, 2, 1), (10, 9, 0), (100, 10, 90), (7, 0, 0),
                                       (2 ** 64 - 1, 2 ** 63, 2 ** 63 - 1)):
@@ -58,5 +74,6 @@ def capture_cases():
 def cases():
     source = RandomBytes(29)
     yield from line_cases(source)
+    yield from handed_in_cases()
     yield from total_cases()
     yield from capture_cases()

@@ -1,18 +1,21 @@
-"""Cases of log records: written, read, made from what was heard, stepped."""
+"""Cases of log records: written, read, made from what was heard, stepped, and the weights they note."""
 
 from captures import any_body, high_body, reply_body, request_body, weight_body, wrong_field_body
 from cases_frame import marked_room
 from frame import frame_of
 from good_messages import weight_data
 from line import Event, hear
-from log import NO_WEIGHT, Record, read_record, record_heard, step, write_record
+from log import NO_WEIGHT, Record, read_record, record_heard, step, weight_noted, write_record
 from message import ROLES
 from random_bytes import RandomBytes
+from refusals import ALL
 
 TIMES = (0, 1, 255, 256, 86_400, 2 ** 32, 2 ** 63, 2 ** 64 - 1)
 GOOD = Record(1000, 1, 1, 0, 0x01, b'\x51\x02\x00')
 GOOD_SERIAL = Record(1000, 2, 0, 255, 0x91, b'\x05\x00\x00')
 GOOD_REFUSAL = Record(1000, 3, 0, 0, 4, NO_WEIGHT)
+WIDE_SERIALS = (0x1000000, 2 ** 32 - 1)  # open point 7.10
+HALVES = (0, 9, 10, 15)  # of a weight byte, at and past the decimal digits
 
 
 def field_changes():
@@ -36,6 +39,12 @@ def field_changes():
                 yield base._replace(weight=bytes(digits))
 
 
+def wide_serials():
+    for serial in WIDE_SERIALS:
+        for base in (GOOD, GOOD_SERIAL, GOOD_REFUSAL):
+            yield base._replace(serial=serial)
+
+
 def some_record(source):
     kind = source.between(1, 3)
     if kind == 3:
@@ -55,9 +64,8 @@ def write_case(record, length):
 def writing_cases(source):
     for record in field_changes():
         yield write_case(record, 20)
-    for serial in (0x1000000, 2 ** 32 - 1):  # open point 7.10
-        for base in (GOOD, GOOD_SERIAL, GOOD_REFUSAL):
-            yield write_case(base._replace(serial=serial), 20)
+    for record in wide_serials():
+        yield write_case(record, 20)
     for length in (0, 1, 19, 20, 21, 40):
         for record in (GOOD, GOOD_SERIAL, GOOD_REFUSAL, GOOD._replace(kind=0)):
             yield write_case(record, length)
@@ -109,6 +117,15 @@ def heard_cases(source):
                     yield heard_case(source.choice(TIMES), role, event)
 
 
+def handed_in_cases(source):
+    """Each of the paper's refusals as an event: 1 to 8 are met on the line, of
+    the frame layer and of the message layer; the others are refused by 8."""
+    for number in ALL:
+        for role in ROLES:
+            for wire, count in ((0, 0), (9, 4), (2 ** 64 - 1, 255)):
+                yield heard_case(86_400 + number, role, Event(number, wire, count, b''))
+
+
 def step_cases(source):
     """Places are whole records from the front, or past the end."""
     logs = [b'']
@@ -125,7 +142,37 @@ def step_cases(source):
             yield ('step', (log, place), step(log, place))
 
 
+def weight_case(record):
+    return ('weight_noted', tuple(record), weight_noted(record))
+
+
+def digit_changes():
+    """Weight bytes whose halves are decimal digits or not, in each place and kind."""
+    for base in (GOOD, GOOD_SERIAL, GOOD_REFUSAL):
+        for place in range(3):
+            for high in HALVES:
+                for low in HALVES:
+                    digits = bytearray(base.weight)
+                    digits[place] = high << 4 | low
+                    yield base._replace(weight=bytes(digits))
+
+
+def weight_cases(source):
+    for record in field_changes():
+        yield weight_case(record)
+    for record in wide_serials():
+        yield weight_case(record)
+    for base in (GOOD, GOOD_SERIAL, GOOD_REFUSAL):
+        for status in range(256):
+            yield weight_case(base._replace(status=status))
+    for record in digit_changes():
+        yield weight_case(record)
+    for _ in range(100):
+        yield weight_case(some_record(source))
+
+
 def cases():
     source = RandomBytes(23)
-    for group in (writing_cases, record_reading_cases, heard_cases, step_cases):
+    for group in (writing_cases, record_reading_cases, heard_cases, handed_in_cases, step_cases,
+                  weight_cases):
         yield from group(source)

@@ -12,7 +12,7 @@ body". Its number is 0 for a body that ended well, else the refusal.
 from collections import namedtuple
 
 from frame import DELIMITER, INSERTED, LONGEST_BODY, judge_heard
-from refusals import ACCEPTED, BODY_TOO_LONG, STRAY_BYTE
+from refusals import ACCEPTED, BODY_TOO_LONG, FIELD_WRONG, LINE_REFUSALS, STRAY_BYTE
 
 WIRE_TURN = 2 ** 64  # "bytes since the reader started, modulo 2^64"
 NOTHING_KEPT = bytes(LONGEST_BODY)
@@ -41,6 +41,15 @@ def at_rest(phase, wire):
 
 def refusal(number, wire, count):
     return Event(number, wire, count, b'')
+
+
+def judge_event(event):
+    """An event handed in to the log or the listing. Only "a refusal met on
+    the line", 1 to 8, is an event's: any other number is "a field outside its
+    values", refusal 8."""
+    if event.number == ACCEPTED or event.number in LINE_REFUSALS:
+        return ACCEPTED
+    return FIELD_WRONG
 
 
 def keep(state, wire, byte):

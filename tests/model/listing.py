@@ -7,7 +7,7 @@ too (open point 5.8).
 
 import line
 import message
-from refusals import ACCEPTED, lend
+from refusals import ACCEPTED, lend, refused_write
 
 
 def address_text(address):
@@ -53,7 +53,11 @@ def total_line(events, weights, refusals):
 
 
 def write_line(count, event, room):
-    """An event's line into lent room: (0, length), or (9, 0)."""
+    """An event's line into lent room: (0, length), or (8, 0) of an event whose
+    refusal no line can meet ("refusals 1 to 8 all as the third line"), then (9, 0)."""
+    number = line.judge_event(event)
+    if number != ACCEPTED:
+        return refused_write(number)
     return lend(event_line(count, event), room)
 
 

@@ -5,7 +5,7 @@ on. Points of later requests are held to what is true before them.
 """
 
 from check_byte import check_of
-from frame import (body_of, frame_of, judge_heard, open_body, room_needed, write_frame)
+from frame import body_of, frame_of, judge_heard, judge_lent, open_body, room_needed, write_frame
 from line import FRESH, Event, feed, feed_block, hear, kept_bytes, state_of
 from listing import listing_of, write_line, write_total
 
@@ -90,6 +90,17 @@ def test_counts(expect):
     expect('block', feed_block(FRESH, b'\xff\x01\xff\xff\x02')[1:], (4, Event(1, 4, 1, b'')))
 
 
+def test_lent_bodies(expect):
+    # a lent body is judged 2, 1, 4, 5: past 255 bytes it is 2 whatever its check and its address
+    for first, at_most in ((0x00, 0), (0x01, 0), (0x9F, 0), (0xA0, 5), (0xFF, 5)):
+        for length in (255, 256, 257, 300, 600):
+            unchecked = bytes([first]) + bytes(range(1, 254)) + bytes(length - 255)
+            right, wrong = (unchecked + bytes([check_of(unchecked) ^ change]) for change in (0, 1))
+            expect('lent body', (len(right), judge_lent(right), judge_lent(wrong)),
+                   (length, at_most, 4) if length == 255 else (length, 2, 2))
+    expect('lent body', [judge_lent(b''), judge_lent(b'\xa0\xc3'), judge_lent(b'\xa0\xc3\x00')], [1, 1, 4])
+
+
 def test_frame_writing(expect):
     # 3.1 (!) room equal to the need is enough; nothing past it is touched
     room = bytearray(b'\xaa' * 7)
@@ -149,10 +160,20 @@ def test_listing(expect):
     room = bytearray(27)
     expect('line', (write_total(3, 2, 1, room), bytes(room)), ((9, 0), bytes(27)))
     expect('line', write_total(3, 2, 1, bytearray(28)), (0, 28))
+    # refusals 1 to 8 list, handed in as events too; any other is 8, ahead of 9, and the room stands
+    for number in range(1, 9):
+        room = bytearray(12)
+        expect('met on the line', (write_line(1, Event(number, 9, 4, b''), room), bytes(room)),
+               ((0, 12), b'1 refused %d\n' % number))
+    for number in (9, 10, 11):
+        for length in (0, 12, 13, 100):
+            room = bytearray(b'\xaa' * length)
+            expect('not met on the line', (write_line(1, Event(number, 9, 4, b''), room), bytes(room)),
+                   ((8, 0), b'\xaa' * length))
     # 5.8 (!) ends
     expect('5.8', listing_of(b''), b'total 0 weights 0 refused 0\n')
     expect('5.8', listing_of(b'\x01\x02\xfe\xff\xff\xff'), b'total 0 weights 0 refused 0\n')
 
 
-TESTS = (test_full_body, test_held, test_states_handed_in, test_counts, test_frame_writing,
-         test_listing)
+TESTS = (test_full_body, test_held, test_states_handed_in, test_counts, test_lent_bodies,
+         test_frame_writing, test_listing)

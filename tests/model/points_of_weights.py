@@ -2,8 +2,8 @@
 
 from frame import body_of, frame_of
 from line import Event, hear
-from log import NO_WEIGHT, Record, read_record, record_heard, step, write_record
-from message import read_message
+from log import NO_WEIGHT, Record, read_record, record_heard, step, weight_noted, write_record
+from message import ROLES, read_message
 from random_bytes import RandomBytes
 from weight import (Reading, difference, float_bits, is_near, kilograms, kilograms_of, read_reading,
                     value, write_reading)
@@ -119,8 +119,12 @@ def test_heard(expect):
         return record_heard(7, role, event)
 
     # 7.4 (!) kind 3: refusals of the line and of the message layer
-    expect('7.4', [record_heard(7, 'reply', Event(number, 9, 4, b'')).status for number in range(1, 6)],
-           [1, 2, 3, 4, 5])
+    for role in ROLES:
+        expect('7.4', [record_heard(7, role, Event(number, 9, 4, b'')) for number in range(1, 9)],
+               [Record(7, 3, 0, 0, number, NO_WEIGHT) for number in range(1, 9)])
+        # a refusal that no line can meet is 8, and makes no record
+        expect('not met on the line', [record_heard(7, role, Event(number, 9, 4, b'')) for number in (9, 10, 11)],
+               [(8,)] * 3)
     refused = ((0x11, b''), (0xC3, b''), (0xBF, b'\x80'))
     expect('7.4', [recorded('reply', code, data) for code, data in refused],
            [Record(7, 3, 0, 0, number, NO_WEIGHT) for number in (6, 7, 8)])
@@ -135,4 +139,27 @@ def test_heard(expect):
     expect('6.7', recorded('reply', 0xC3, b'\x00\x06\x00\x18').kind, 1)
 
 
-TESTS = (test_readings, test_values, test_kilograms, test_log, test_heard)
+def test_weights_noted(expect):
+    """The weight that a record notes."""
+    gross = Record(7, 1, 1, 0, 0x01, b'\x51\x02\x00')
+    net = Record(7, 2, 0, 255, 0x91, b'\x05\x00\x00')
+    # kinds 1 and 2: the reading of W0 W1 W2 and the status as CON
+    expect('weight noted', weight_noted(gross), (0, Reading(0, 251, 1, 0, 0, 0, 0)))
+    expect('weight noted', weight_noted(net), (0, Reading(1, 5, 1, 0, 0, 1, 0)))
+    expect('weight noted', weight_noted(Record(7, 1, 1, 0, 0xFF, b'\x12\x34\x56')),
+           (0, Reading(1, 563_412, 7, 1, 1, 1, 1)))
+    # kind 3: the refusal that it notes, never a reading of its zeros
+    expect('refusal noted', [weight_noted(Record(7, 3, 0, 0, number, NO_WEIGHT)) for number in range(1, 9)],
+           [(number,) for number in range(1, 9)])
+    # zeros that were heard are a reading, with the same bytes but for the kind
+    expect('zeros heard', weight_noted(Record(7, 1, 0, 0, 4, NO_WEIGHT)), (0, Reading(0, 0, 4, 0, 0, 0, 0)))
+    # what breaks a rule is 11 in every kind, digits that are not decimal too
+    wrong = [Record(7, 3, 0, 0, status, NO_WEIGHT) for status in [0] + list(range(9, 256))]
+    wrong += [gross._replace(kind=kind) for kind in (0, 3, 4, 255)]
+    wrong += [gross._replace(weight=digits) for digits in (b'\x5a\x02\x00', b'\x51\xa2\x00', b'\x51\x02\x0f')]
+    wrong += [gross._replace(address=0xA0), gross._replace(serial=1), net._replace(serial=16_777_216),
+              Record(7, 3, 0, 0, 4, b'\x00\x00\x01'), Record(7, 3, 1, 0, 4, NO_WEIGHT)]
+    expect('11 of a weight noted', {weight_noted(record) for record in wrong}, {(11,)})
+
+
+TESTS = (test_readings, test_values, test_kilograms, test_log, test_heard, test_weights_noted)

@@ -20,6 +20,7 @@ RECORD_WRONG = 11    # log record breaks a rule
 
 ALL = (BODY_TOO_SHORT, BODY_TOO_LONG, STRAY_BYTE, CHECK_WRONG, ADDRESS_WRONG, CODE_UNKNOWN,
        LENGTH_WRONG, FIELD_WRONG, ROOM_SHORT, LOG_LEFT_OVER, RECORD_WRONG)
+LINE_REFUSALS = range(1, 9)  # "Kind 3 is a refusal met on the line: status 1 to 8"
 
 
 def refused(number):

@@ -18,11 +18,12 @@ import cases_log
 import cases_message
 import cases_weight
 from cases import words_of
+from log import Record
 import message
 from refusals import ACCEPTED
 
 LONGEST = 4096  # of a text, and of a room
-FIRST_WRITER = 23  # from this number on a function is lent room: the last of its inputs
+FIRST_WRITER = 24  # from this number on a function is lent room: the last of its inputs
 PHASES = cases_line.PHASES
 BLOCK_SIZES = (0, 1, 2, 7, 64)  # of a capture; 0 is the whole of it at once
 NOTHING, TOLD, REFUSED = 0, 1, 2  # how an answer of three kinds starts
@@ -171,7 +172,10 @@ def signed(value):
 
 
 def noted(of):
-    return (NOTHING,) if of is None else (TOLD, of)
+    """No record, a record, or the refusal of what was handed in."""
+    if of is None:
+        return (NOTHING,)
+    return (TOLD, of) if isinstance(of, Record) else (REFUSED, of)
 
 
 def stepped(kind, *rest):
@@ -227,10 +231,10 @@ FRAME_RUN = {
     'register_of': [Layout(2, text_alone, byte_told)],
     'check_of': [Layout(3, text_alone, byte_told)],
     'address_is_legal': [Layout(4, lambda of: numbers_alone(address(of)), as_it_is)],
-    'judge_heard': [Layout(5, text_alone, as_it_is)],
+    'judge_lent': [Layout(5, text_alone, as_it_is)],
     'open_body': [Layout(6, text_alone, or_refused(opened))],
     'room_needed': [Layout(7, to_write, or_refused(as_it_is))],
-    'write_frame': [Layout(23, to_write, as_it_is)],
+    'write_frame': [Layout(24, to_write, as_it_is)],
 }
 LINE_RUN = {
     'feed': [Layout(8, byte_to_take, lambda after, given: fed_told(after, 1, given))],
@@ -251,23 +255,23 @@ WEIGHT_RUN = {
 }
 MESSAGE_RUN = {
     'read_message': [Layout(19, lambda spoken, body: (body, role(spoken)), or_refused(received))],
-    'write_message': [Layout(24, message_to_write, as_it_is)],
+    'write_message': [Layout(25, message_to_write, as_it_is)],
 }
 LOG_RUN = {
     'read_record': [Layout(20, text_alone, as_it_is)],
     'record_heard': [Layout(21, to_note, noted)],
     'step': [Layout(22, lambda log, at: (log, long(at)), stepped)],
-    'write_record': [Layout(25, record, as_it_is)],
+    'weight_noted': [Layout(23, record, as_it_is)],
+    'write_record': [Layout(26, record, as_it_is)],
 }
 LISTING_RUN = {
-    'write_line': [Layout(26, to_list, as_it_is)],
-    'write_total': [Layout(27, lambda *counts: numbers_alone(*map(long, counts)), as_it_is)],
+    'write_line': [Layout(27, to_list, as_it_is)],
+    'write_total': [Layout(28, lambda *counts: numbers_alone(*map(long, counts)), as_it_is)],
 }
 
-# The parts that are run. `judge_lent`, `stuffed` and `frame_of` have no public function
-# of their own in the crates: the bodies of the first go through `open_body`, and
-# stuffing is seen in what `write_frame` and `write_message` write. `listing` is a whole
-# capture, which `crates/list_capture` runs.
+# The parts that are run. `stuffed` and `frame_of` have no public function of their own
+# in the crates: stuffing is seen in what `write_frame` and `write_message` write.
+# `listing` is a whole capture, which `crates/list_capture` runs.
 RUN = (
     (cases_frame.cases, FRAME_RUN), (cases_line.cases, LINE_RUN), (cases_weight.cases, WEIGHT_RUN),
     (messages, MESSAGE_RUN), (cases_log.cases, LOG_RUN), (cases_listing.cases, LISTING_RUN),

@@ -15,6 +15,9 @@ pub const RECORD_LENGTH: usize = 20;
 
 const REFUSED: u8 = 3;
 
+/// A weight byte of what is no weighing.
+const NO_DIGITS: u8 = 255;
+
 /// A record of a log.
 #[derive(Clone, Copy, Debug, PartialEq, Eq, Hash)]
 pub struct Record {
@@ -72,9 +75,9 @@ impl Record {
                 kind: REFUSED,
                 address: 0,
                 status: why.number(),
-                w0: 0,
-                w1: 0,
-                w2: 0,
+                w0: NO_DIGITS,
+                w1: NO_DIGITS,
+                w2: NO_DIGITS,
                 refusal: 0,
             },
         }
@@ -197,7 +200,7 @@ impl Iterator for Records<'_> {
 impl core::iter::FusedIterator for Records<'_> {}
 
 /// The record that an event makes, read in a role; none for a message that is no weight reply. What was refused on the line, or in
-/// its message, makes a record of the refusal; a refusal above 8 is not met there and makes none.
+/// its message, makes a record of the refusal; a refusal above 8 is not met there, and is refused by 8.
 ///
 /// ```
 /// use quay::{record_heard, Event, Noted, Record, Refusal, Role, WirePlace};

@@ -1,4 +1,5 @@
 pub mod Anatomy
+pub mod OnLine
 pub mod OneAnswer
 pub mod Rebuilding
 pub mod Shortness

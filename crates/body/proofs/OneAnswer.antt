@@ -9,7 +9,7 @@ use Rattle.refusal.proofs.OneAnswer.{one}
 use Rattle.body.specs.declared.addresses.Address.{Address}
 use Rattle.body.specs.declared.bodies.Opened.{Opened}
 use Rattle.body.specs.Addresses.{legal, addressLength, firstByte, serialOf}
-use Rattle.body.specs.Body.{checkRight, judged, openedIf, openedBody}
+use Rattle.body.specs.Body.{checkRight, judgedLent, openedIf, openedBody}
 
 pub legal-one : (address : Address) (a b : Bool) → a ≡ legal address → b ≡ legal address → a ≡ b
 legal-one address a b = one
@@ -17,11 +17,11 @@ legal-one address a b = one
 pub check-right-one : (body : List ℕ) (a b : Bool) → a ≡ checkRight body → b ≡ checkRight body → a ≡ b
 check-right-one body a b = one
 
-pub judge-one : (body : List ℕ) (a b : Verdict) → a ≡ judged body → b ≡ judged body → a ≡ b
+pub judge-one : (body : List ℕ) (a b : Verdict) → a ≡ judgedLent body → b ≡ judgedLent body → a ≡ b
 judge-one body a b = one
 
-pub open-checked-one : (right : Bool) (body : List ℕ) (a b : Opened) → a ≡ openedIf right body → b ≡ openedIf right body → a ≡ b
-open-checked-one right body a b = one
+pub open-without-check-one : (right : Bool) (body : List ℕ) (a b : Opened) → a ≡ openedIf right body → b ≡ openedIf right body → a ≡ b
+open-without-check-one right body a b = one
 
 pub open-one : (body : List ℕ) (a b : Opened) → a ≡ openedBody body → b ≡ openedBody body → a ≡ b
 open-one body a b = one

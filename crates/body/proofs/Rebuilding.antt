@@ -6,7 +6,7 @@ use mathlib.Core.Bool.{Bool, true, false, not}
 use mathlib.Core.List.{List, [], _∷_, _++_}
 use native.Mathlib.Omega.{arith}
 use native.Mathlib.Numerals.{add-one}
-use borrow.Author.Tests.{ltb-false, leb-true, ne-eqb, eqb-true, not-false, lt-ltb}
+use borrow.Author.Tests.{ltb-false, leb-true, ne-eqb, eqb-true, not-false, lt-ltb, le-ltb}
 use lib.Dec.{T, ltb, leb, eqb}
 use lib.ListN.{length, take, drop, getD, length-append, take-append-drop}
 use lib.Seq.{slice, take-at, take-suc, take-take, take-length, slice-cons}
@@ -49,6 +49,11 @@ good-not-empty good = let long = three [] (good-long [] good) in omega arith
 pub lent-at-most : (body : List ℕ) → judgedLent body ≡ Good → length body ≤ longest
 unfolding judgedLent
 lent-at-most body good = ltb-false longest (length body) (test-passed (ltb longest (length body)) _ _ good)
+
+-- of at most 255 bytes the two verdicts are one
+pub lent-is : (body : List ℕ) → length body ≤ longest → judgedLent body ≡ judged body
+unfolding judgedLent judged
+lent-is body most = rw (le-ltb longest (length body) most)
 
 pub lent-good : (body : List ℕ) → judgedLent body ≡ Good → judged body ≡ Good
 unfolding judgedLent judged

@@ -9,9 +9,9 @@ use lib.Dec.{ltb, eqb}
 use lib.ListN.{length, getD}
 use Rattle.refusal.specs.declared.Verdict.the-variants.{Good}
 use Rattle.refusal.proofs.Booleans.{neither-left, neither-right}
-use Rattle.refusal.proofs.Verdicts.{test-passed}
+use Rattle.refusal.proofs.Verdicts.{test-passed, rest-passed}
 use Rattle.body.specs.Addresses.{addressIn, addressLength}
-use Rattle.body.specs.Body.{short, judged}
+use Rattle.body.specs.Body.{longest, short, judged, judgedLentIf}
 
 pub three : (body : List ℕ) → short body ≡ false → 3 ≤ length body
 unfolding short
@@ -40,6 +40,9 @@ address-inside body e = by-first (eqb (getD body 0 0) 0) refl
     by-first false other = rw other (three body e)
 
 -- a good body is not short
+pub told-not-short : (right : Bool) (body : List ℕ) → judgedLentIf right body ≡ Good → short body ≡ false
+told-not-short right body good = test-passed (short body) _ _ (rest-passed (ltb longest (length body)) _ _ good)
+
 pub good-not-short : (body : List ℕ) → judged body ≡ Good → short body ≡ false
 unfolding judged
 good-not-short body good = test-passed (short body) _ _ good

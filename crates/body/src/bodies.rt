@@ -9,10 +9,10 @@ ghost use mathlib.Core.Path.{_≡_};
 ghost use mathlib.Core.Bool.{false};
 ghost use Prim.Native.Nat.{_≤_};
 ghost use Rattle.body.specs.Addresses.{addressIn, addressLength};
-ghost use Rattle.body.specs.Body.{short, checkRight, judgedIf, judged, partsOf, openedIf, openedBody};
+ghost use Rattle.body.specs.Body.{short, checkRight, judgedLentIf, judgedLent, partsOf, openedIf, openedBody};
 
 // The most bytes a body has, its check among them. Delimiters and inserted FE bytes aren't counted.
-pub const LONGEST: usize = 255;
+pub const LONGEST_BODY: usize = 255;
 
 // The parts of a body. Its data are the bytes from place `from` up to, not including, place `to`, where the check stands.
 pub struct Parts {
@@ -70,10 +70,13 @@ pub fn check_right(body: &[u8]) -> bool
     feed_all(0, body) == 0
 }
 
-// A body that ended, judged 1, 4, 5, given whether its check is right.
-fn judge_checked(right: bool, body: &[u8]) -> Verdict
-    ensures { λ r. ⌜ r ≡ judgedIf right (now (body .entry)) ⌝ }
+// A lent body judged 2, 1, 4, 5, told whether its check is right.
+fn judge_told(right: bool, body: &[u8]) -> Verdict
+    ensures { λ r. ⌜ r ≡ judgedLentIf right (now (body .entry)) ⌝ }
 {
+    if LONGEST_BODY < body.len() {
+        return Verdict::Refused(Refusal::BodyLong);
+    }
     if is_short(body) {
         return Verdict::Refused(Refusal::BodyShort);
     }
@@ -86,11 +89,11 @@ fn judge_checked(right: bool, body: &[u8]) -> Verdict
     Verdict::Refused(Refusal::AddressIllegal)
 }
 
-// A body that ended, judged 1, 4, 5.
+// A lent body judged 2, 1, 4, 5. One that a line kept has at most 255 bytes: of it this is 1, 4, 5.
 pub fn judge(body: &[u8]) -> Verdict
-    ensures { λ r. ⌜ r ≡ judged (now (body .entry)) ⌝ }
+    ensures { λ r. ⌜ r ≡ judgedLent (now (body .entry)) ⌝ }
 {
-    judge_checked(check_right(body), body)
+    judge_told(check_right(body), body)
 }
 
 fn parts_of(body: &[u8]) -> Parts
@@ -107,15 +110,12 @@ fn parts_of(body: &[u8]) -> Parts
     }
 }
 
-// A lent body, judged 2, 1, 4, 5 and taken apart, given whether its check is right. The check of a body that a line handed out
-// was found right there: it need not be made again.
-pub fn open_checked(right: bool, body: &[u8]) -> Opened
+// A lent body, judged 2, 1, 4, 5 and taken apart, without making its check: whether that is right is told. The check of a body that a
+// line handed out was found right there.
+pub fn open_without_check(right: bool, body: &[u8]) -> Opened
     ensures { λ r. ⌜ r ≡ openedIf right (now (body .entry)) ⌝ }
 {
-    if LONGEST < body.len() {
-        return Opened::Refused(Refusal::BodyLong);
-    }
-    match judge_checked(right, body) {
+    match judge_told(right, body) {
         Verdict::Refused(why) => Opened::Refused(why),
         Verdict::Good => Opened::Parts(parts_of(body)),
     }
@@ -125,5 +125,5 @@ pub fn open_checked(right: bool, body: &[u8]) -> Opened
 pub fn open(body: &[u8]) -> Opened
     ensures { λ r. ⌜ r ≡ openedBody (now (body .entry)) ⌝ }
 {
-    open_checked(check_right(body), body)
+    open_without_check(check_right(body), body)
 }

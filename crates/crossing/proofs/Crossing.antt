@@ -7,11 +7,11 @@ use Rattle.refusal.specs.declared.Refusal.{Refusal}
 use Rattle.room.specs.declared.Written.{Written}
 use Rattle.room.specs.Writing.{Left, refusedWrite, Leaves as LeavesBelow}
 use Rattle.crossing.specs.declared.writing.QuayWritten.{QuayWritten}
-use Rattle.crossing.specs.Writing.{writtenOut, unwritten, Leaves}
+use Rattle.crossing.specs.Writing.{writtenOut, unwritten, LeavesAcross}
 
-pub crosses : {write : Left} {written : Written} {answered : QuayWritten} {left : List ℕ} → LeavesBelow write written left → answered ≡ writtenOut written → Leaves write answered left
+pub crosses : {write : Left} {written : Written} {answered : QuayWritten} {left : List ℕ} → LeavesBelow write written left → answered ≡ writtenOut written → LeavesAcross write answered left
 crosses below e = record { answer = e ∙ ap writtenOut (below .answer); room = below .room }
 
 -- refused by the cover itself
-pub crosses-not : (why : Refusal) (room : List ℕ) {written : Written} {answered : QuayWritten} → written ≡ refusedWrite why → answered ≡ writtenOut written → Leaves (unwritten why room) answered room
+pub crosses-not : (why : Refusal) (room : List ℕ) {written : Written} {answered : QuayWritten} → written ≡ refusedWrite why → answered ≡ writtenOut written → LeavesAcross (unwritten why room) answered room
 crosses-not why room below e = record { answer = e ∙ ap writtenOut below; room = refl }

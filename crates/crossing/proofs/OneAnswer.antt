@@ -12,7 +12,7 @@ use Rattle.crossing.specs.declared.roles.Asked.{Asked}
 use Rattle.crossing.specs.declared.writing.QuayWritten.{QuayWritten}
 use Rattle.crossing.specs.Events.{eventFrom}
 use Rattle.crossing.specs.Roles.{roleFrom}
-use Rattle.crossing.specs.Writing.{writtenOut, Leaves}
+use Rattle.crossing.specs.Writing.{writtenOut, LeavesAcross}
 
 pub event-from-one : (event : QuayEvent) (a b : Given) → a ≡ eventFrom event → b ≡ eventFrom event → a ≡ b
 event-from-one event a b = one
@@ -24,5 +24,5 @@ pub written-out-one : (written : Written) (a b : QuayWritten) → a ≡ writtenO
 written-out-one written a b = one
 
 -- of every write that crosses: frames, messages, records, the total line
-pub writes-one : (write : Left) (a b : QuayWritten) (l m : List ℕ) → Leaves write a l → Leaves write b m → (a ≡ b) × (l ≡ m)
+pub writes-one : (write : Left) (a b : QuayWritten) (l m : List ℕ) → LeavesAcross write a l → LeavesAcross write b m → (a ≡ b) × (l ≡ m)
 writes-one write a b l m p q = (one (p .answer) (q .answer), one (p .room) (q .room))

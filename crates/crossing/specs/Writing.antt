@@ -16,6 +16,6 @@ abbrev pub unwritten : Refusal → List ℕ → Left
 unwritten why room = record { answer = refusedWrite why; room = room }
 
 -- a promise: the answer and the room are those of a write, and no others
-pub record Leaves (write : Left) (answered : QuayWritten) (left : List ℕ) : Type 0 where
+pub record LeavesAcross (write : Left) (answered : QuayWritten) (left : List ℕ) : Type 0 where
   pub answer : answered ≡ writtenOut (write .answer)
   pub room : left ≡ write .room

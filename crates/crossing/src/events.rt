@@ -4,6 +4,7 @@ use line::Event;
 use line::WirePlace;
 use refusal::Named;
 use refusal::Refusal;
+use refusal::line_status;
 use refusal::of_number;
 ghost use mathlib.Core.Path.{_≡_};
 ghost use Rattle.crossing.specs.Events.{givenAs, eventFrom};
@@ -37,7 +38,7 @@ fn given_as(named: Named, event: QuayEvent) -> Given
     }
 }
 
-// An event handed in. A kind above 2, or a refusal of a number that there is not, is refused by 8.
+// An event handed in. A kind above 2, or a refusal that no line can meet, is refused by 8.
 pub fn event_from(event: QuayEvent) -> Given
     ensures { λ r. ⌜ r ≡ eventFrom event ⌝ }
 {
@@ -45,7 +46,12 @@ pub fn event_from(event: QuayEvent) -> Given
     match kind {
         0 => Given::Event(Event::Nothing),
         1 => Given::Event(Event::Frame(WirePlace(event.wire), BodyPlace(event.kept))),
-        2 => given_as(of_number(event.refusal), event),
+        2 => {
+            if !line_status(event.refusal) {
+                return Given::Refused(Refusal::FieldOutside);
+            }
+            given_as(of_number(event.refusal), event)
+        }
         _ => Given::Refused(Refusal::FieldOutside),
     }
 }

@@ -12,7 +12,7 @@ use lib.ListN.{length, replicate}
 use lib.Dec.{eqb}
 use Rattle.refusal.specs.declared.Verdict.the-variants.{Good}
 use Rattle.body.specs.Body.{judged}
-use Rattle.line.specs.Listener.{Heard, frame, State, seeking, delimited, inside, held, Listener, Step, tick, keep, ended, hear, hearIn, andThen, events}
+use Rattle.line.specs.Listener.{Heard, frame, State, seeking, delimited, inside, held, Listener, Step, tick, keep, ended, hear, hearIn, heardThen, events}
 
 -- a listener that has taken n bytes; the turn of the count at 2^64 is met here and in `ticks`, and nowhere else
 abbrev pub clock : ℕ → ℕ
@@ -27,7 +27,7 @@ ticks n = mod-add-mod n (2 ^ 64) 1 ∙ ap clock (add-one n)
 
 -- what a step leaves to the bytes behind it
 abbrev onward : Step → List ℕ → List Heard
-onward done rest = andThen (done .event) (events (done .next) rest)
+onward done rest = heardThen (done .event) (events (done .next) rest)
 
 one-byte : (state : State) (n byte : ℕ) (rest : List ℕ) → events (at state n) (byte ∷ rest) ≡ onward (hearIn state byte (clock (suc n))) rest
 unfolding events hear
@@ -35,43 +35,43 @@ one-byte state n byte rest = ap (λ (wire : ℕ). onward (hearIn state byte wire
 
 module _ (n : ℕ) (rest : List ℕ) where
   pub seeking-ff : events (at seeking n) (0xFF ∷ rest) ≡ events (at delimited (suc n)) rest
-  unfolding hearIn andThen
+  unfolding hearIn heardThen
   seeking-ff = one-byte seeking n 0xFF rest
 
   pub seeking-other : (byte : ℕ) → eqb byte 0xFF ≡ false → events (at seeking n) (byte ∷ rest) ≡ events (at seeking (suc n)) rest
-  unfolding hearIn andThen
+  unfolding hearIn heardThen
   seeking-other byte other = one-byte seeking n byte rest ∙ rw other
 
   pub delimited-ff : events (at delimited n) (0xFF ∷ rest) ≡ events (at delimited (suc n)) rest
-  unfolding hearIn andThen
+  unfolding hearIn heardThen
   delimited-ff = one-byte delimited n 0xFF rest
 
   pub delimited-fe : events (at delimited n) (0xFE ∷ rest) ≡ events (at seeking (suc n)) rest
-  unfolding hearIn andThen
+  unfolding hearIn heardThen
   delimited-fe = one-byte delimited n 0xFE rest
 
   pub delimited-other : (byte : ℕ) → eqb byte 0xFF ≡ false → eqb byte 0xFE ≡ false
       → events (at delimited n) (byte ∷ rest) ≡ events (at (inside (byte ∷ [])) (suc n)) rest
-  unfolding hearIn andThen keep
+  unfolding hearIn heardThen keep
   delimited-other byte no-ff no-fe = one-byte delimited n byte rest ∙ rw (no-ff, no-fe)
 
   pub inside-ff : (kept : List ℕ) → events (at (inside kept) n) (0xFF ∷ rest) ≡ events (at (held kept) (suc n)) rest
-  unfolding hearIn andThen
+  unfolding hearIn heardThen
   inside-ff kept = one-byte (inside kept) n 0xFF rest
 
   pub inside-other : (kept : List ℕ) (byte : ℕ) → eqb byte 0xFF ≡ false → length kept < 255
       → events (at (inside kept) n) (byte ∷ rest) ≡ events (at (inside (kept ++ (byte ∷ []))) (suc n)) rest
-  unfolding hearIn andThen keep
+  unfolding hearIn heardThen keep
   inside-other kept byte other room = one-byte (inside kept) n byte rest ∙ rw (other, lt-ltb (length kept) 255 room)
 
   pub held-fe : (kept : List ℕ) → length kept < 255
       → events (at (held kept) n) (0xFE ∷ rest) ≡ events (at (inside (kept ++ (0xFF ∷ []))) (suc n)) rest
-  unfolding hearIn andThen keep
+  unfolding hearIn heardThen keep
   held-fe kept room = one-byte (held kept) n 0xFE rest ∙ rw (lt-ltb (length kept) 255 room)
 
   pub held-ff : (kept : List ℕ) → judged kept ≡ Good
       → events (at (held kept) n) (0xFF ∷ rest) ≡ frame (clock (suc n)) (length kept) kept ∷ events (at delimited (suc n)) rest
-  unfolding hearIn andThen ended
+  unfolding hearIn heardThen ended
   held-ff kept good = one-byte (held kept) n 0xFF rest ∙ rw good
 
 -- a run of FFs: m is the clock behind it

@@ -12,7 +12,7 @@ use Rattle.refusal.specs.declared.Refusal.the-variants.{BodyLong}
 use Rattle.refusal.specs.declared.Verdict.{Verdict}
 use Rattle.refusal.specs.declared.Verdict.the-variants.{Good, Refused}
 use Rattle.body.specs.Body.{longest, judged}
-use Rattle.line.specs.Listener.{State, seeking, delimited, inside, held, Heard, nothing, frame, refused, Listener, Step, step, keep, ended, hearIn, hear, tick, andThen, events}
+use Rattle.line.specs.Listener.{State, seeking, delimited, inside, held, Heard, nothing, frame, refused, Listener, Step, step, keep, ended, hearIn, hear, tick, heardThen, events}
 use Rattle.demands.specs.Wire.{Within, AllWithin, CountsWithin}
 
 abbrev Bounded : State → Type 0
@@ -50,8 +50,8 @@ byte-sound (inside kept) byte wire few = either (eqb byte 0xFF) _ _ (few, tt) (k
 byte-sound (held kept) byte wire few =
     either (eqb byte 0xFE) _ _ (kept-sound kept 0xFF wire) (either (eqb byte 0xFF) _ _ (tt, ended-within (judged kept) kept wire few) (tt, few))
 
-then-within : (heard : Heard) (later : List Heard) → Within heard → AllWithin later → AllWithin (andThen heard later)
-unfolding andThen
+then-within : (heard : Heard) (later : List Heard) → Within heard → AllWithin later → AllWithin (heardThen heard later)
+unfolding heardThen
 then-within nothing later p q = q
 then-within (frame wire kept body) later p q = (p, q)
 then-within (refused why wire kept) later p q = (p, q)

@@ -7,15 +7,15 @@ use native.Mathlib.Omega.{arith}
 use lib.ListN.{length, take, drop, replicate, length-append, length-replicate, take-append-drop}
 use lib.Seq.{take-append-le}
 use Rattle.frame.specs.Stuffing.{stuffed}
-use Rattle.line.specs.Listener.{Heard, nothing, frame, refused, Listener, delimited, events, after, hear, andThen}
+use Rattle.line.specs.Listener.{Heard, nothing, frame, refused, Listener, delimited, events, after, hear, heardThen}
 use Rattle.demands.specs.Wire.{Sent, Proper, onWire, wireOf, framesOf, overBlocks, StopsInside, AnyCut, AnyBlocks}
 use Rattle.demands.proofs.Bytes.{at, delimited-run}
 use Rattle.demands.proofs.Piece.{stuff, body-held}
 use Rattle.demands.proofs.AllHeard.{size, all-heard, Opens, either-way, opens-wire, opens-at-once, opens-part}
 
 -- events go byte by byte, so a cut changes nothing
-pub and-then-append : (heard : Heard) (later others : List Heard) → andThen heard (later ++ others) ≡ andThen heard later ++ others
-unfolding andThen
+pub and-then-append : (heard : Heard) (later others : List Heard) → heardThen heard (later ++ others) ≡ heardThen heard later ++ others
+unfolding heardThen
 and-then-append nothing later others = refl
 and-then-append (frame wire kept body) later others = refl
 and-then-append (refused why wire kept) later others = refl
@@ -25,7 +25,7 @@ heard-in-two : (listener : Listener) (first second : List ℕ)
 unfolding events after
 heard-in-two listener [] second = refl
 heard-in-two listener (byte ∷ first) second =
-    ap (andThen (hear listener byte .event)) (heard-in-two (hear listener byte .next) first second)
+    ap (heardThen (hear listener byte .event)) (heard-in-two (hear listener byte .next) first second)
     ∙ and-then-append (hear listener byte .event) (events (hear listener byte .next) first) (events (after (hear listener byte .next) first) second)
 
 left-by-both : (listener : Listener) (first second : List ℕ) → after listener (first ++ second) ≡ after (after listener first) second

@@ -5,8 +5,8 @@ use Rattle.check_byte.specs.Register.{shiftIn, feedBits, feedByte, feedAll, rec
 use Rattle.body.specs.Addresses.{legal, addressIn, addressLength}
 use Rattle.body.specs.Body.{short, judged, judgedLent, codeIn, dataIn}
 use Rattle.frame.specs.Stuffing.{stuffedByte, stuffed, framed}
-use Rattle.line.specs.Listener.{tick, keep, ended, hearIn, hear, andThen, events}
-use Rattle.weight.specs.Bytes.{legal as legalReading, readOf}
+use Rattle.line.specs.Listener.{tick, keep, ended, hearIn, hear, heardThen, events}
+use Rattle.weight.specs.Bytes.{inRange, readOf}
 use Rattle.weight.specs.Tenths.{valueOf}
 use Rattle.codes.specs.Table.{lineIn, lineOf, rowOf}
 use Rattle.meaning.specs.Fields.{readIn}
@@ -16,5 +16,5 @@ use Rattle.message.specs.Reading.{messageOf, readMessage, readIf}
 use Rattle.demands.specs.Examples.{JudgedExamples}
 
 pub judged-examples : JudgedExamples
-unfolding shiftIn feedBits feedByte feedAll received legal addressIn addressLength short judged judgedLent codeIn dataIn stuffedByte stuffed framed tick keep ended hearIn hear andThen events legalReading readOf valueOf readIn lineIn lineOf rowOf lowFirst judgedData judgedMessage judgedCode messageOf readIf readMessage
+unfolding shiftIn feedBits feedByte feedAll received legal addressIn addressLength short judged judgedLent codeIn dataIn stuffedByte stuffed framed tick keep ended hearIn hear heardThen events inRange readOf valueOf readIn lineIn lineOf rowOf lowFirst judgedData judgedMessage judgedCode messageOf readIf readMessage
 judged-examples = record { read = refl; written = refl }

@@ -23,21 +23,21 @@ use Rattle.message.specs.declared.reading.Message.{Message}
 use Rattle.codes.specs.Table.{rowOf, inTable}
 use Rattle.codes.specs.Lengths.{lengthOf, lengthRight}
 use Rattle.meaning.specs.Fields.{fieldsRight}
-use Rattle.meaning.specs.Judging.{judgedCode, andThen, judgedData, judgedMessage}
+use Rattle.meaning.specs.Judging.{judgedCode, judgedThen, judgedData, judgedMessage}
 use Rattle.message.specs.Reading.{messageOf, receiving, verdictOf}
 use Rattle.message.specs.Writing.{judgedMessageWrite, writtenMessage}
 use Rattle.message.proofs.Checked.{in-order, read-so}
 use Rattle.message.proofs.RoundTrip.{body-back, again, written-lent, read-back, data-stand}
-use Rattle.demands.specs.Messages.{bytesOf, WrittenReadsBack, AcceptedWritesBack, FirstToFail, AsTheTableSays, ReadingRefuses, WritingRefuses}
+use Rattle.demands.specs.Messages.{writtenBytes, MessageReadsBack, AcceptedWritesBack, FirstToFail, AsTheTableSays, ReadingRefuses, WritingRefuses}
 use Rattle.demands.proofs.Corollaries.{reads-back}
 
 -- ---- written, then read
 
-pub written-reads-back : WrittenReadsBack
+pub written-reads-back : MessageReadsBack
 unfolding writtenMessage
 written-reads-back role address code data′ room good =
     let body = bodyOf address code data′ in
-    let bytes : bytesOf (writtenMessage role address code data′ room) ≡ framed body = rw good (take-at (framed body) _ (length (framed body)) refl) in
+    let bytes : writtenBytes (writtenMessage role address code data′ room) ≡ framed body = rw good (take-at (framed body) _ (length (framed body)) refl) in
     record {
       heard = rw bytes (reads-back body (written-lent role address code data′ room good));
       message = read-back role address code data′ room good;
@@ -88,14 +88,14 @@ first-to-fail true true true after other =
 
 -- the message's verdict with a judge behind it is such a chain
 judged-then : (role : Role) (code : ℕ) (data′ : List ℕ) (after : Verdict)
-    → andThen (judgedMessage role code data′) after
+    → judgedThen (judgedMessage role code data′) after
     ≡ chain (inTable (rowOf role code)) (lengthRight (lengthOf (rowOf role code)) data′) (fieldsRight (rowOf role code) data′) after
 unfolding judgedMessage judgedCode judgedData chain
 judged-then role code data′ after =
     by-tests (inTable (rowOf role code)) (lengthRight (lengthOf (rowOf role code)) data′) (fieldsRight (rowOf role code) data′)
   where
     by-tests : (known sized right : Bool)
-        → andThen (andThen (refuseIf (not known) CodeUnknown Good) (refuseIf (not sized) LengthWrong (refuseIf (not right) FieldOutside Good))) after
+        → judgedThen (judgedThen (refuseIf (not known) CodeUnknown Good) (refuseIf (not sized) LengthWrong (refuseIf (not right) FieldOutside Good))) after
         ≡ refuseIf (not known) CodeUnknown (refuseIf (not sized) LengthWrong (refuseIf (not right) FieldOutside after))
     by-tests false sized right = refl
     by-tests true false right = refl
@@ -103,12 +103,12 @@ judged-then role code data′ after =
     by-tests true true true = refl
 
 by-the-table : (role : Role) (code : ℕ) (data′ : List ℕ) (after : Verdict) → Other after
-    → AsTheTableSays role code data′ after (andThen (judgedMessage role code data′) after)
+    → AsTheTableSays role code data′ after (judgedThen (judgedMessage role code data′) after)
 by-the-table role code data′ after other = rw (judged-then role code data′ after) (first-to-fail _ _ _ after other)
 
 -- ---- reading, behind 2, 1, 4, 5
 
-then-nothing : (verdict : Verdict) (message : Message) → verdictOf (receiving verdict message) ≡ andThen verdict Good
+then-nothing : (verdict : Verdict) (message : Message) → verdictOf (receiving verdict message) ≡ judgedThen verdict Good
 then-nothing Good message = refl
 then-nothing (Refused why) message = refl
 
@@ -134,6 +134,6 @@ writing-refuses role address code data′ room =
     record {
       ahead = λ illegal. rw illegal;
       then = λ is-legal.
-          rw (is-legal, answered (andThen (judgedMessage role code data′) after) (framed body) room)
+          rw (is-legal, answered (judgedThen (judgedMessage role code data′) after) (framed body) room)
           (by-the-table role code data′ after (after-length-and-room (ltb 255 (length body)) (ltb (length room) (needed body))));
     }

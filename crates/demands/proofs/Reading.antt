@@ -27,7 +27,7 @@ use Rattle.line.specs.declared.places.Event.{Event}
 use Rattle.line.specs.declared.places.Event.the-variants.{Nothing, Frame, Refused}
 use Rattle.line.specs.declared.reading.Reader.{Reader}
 use Rattle.line.specs.declared.reading.Fed.{Fed}
-use Rattle.line.specs.Listener.{Heard, frame, Listener, hear, andThen, events, fresh}
+use Rattle.line.specs.Listener.{Heard, frame, Listener, hear, heardThen, events, fresh}
 use Rattle.line.specs.Readers.{view, listening, taken, heardAs, fedFrom, fed, freshReader}
 use Rattle.line.proofs.Joined.{joined, told}
 use Rattle.demands.specs.Reading.{EveryByte, afterBytes, heardBy, HearsAsListener, EveryBlock, EveryCut, ReaderDemand3, WrittenReadsBack}
@@ -43,8 +43,8 @@ pub hears-as-listener : HearsAsListener
 unfolding heardBy events
 hears-as-listener reader [] = refl
 hears-as-listener reader (byte ∷ bytes) =
-    ap (λ (h : Heard). andThen h (heardBy (taken reader byte .reader) bytes)) (told reader byte)
-    ∙ ap (andThen (hear (view reader) byte .event)) (hears-as-listener (taken reader byte .reader) bytes ∙ ap (λ (l : Listener). events l bytes) (joined reader byte))
+    ap (λ (h : Heard). heardThen h (heardBy (taken reader byte .reader) bytes)) (told reader byte)
+    ∙ ap (heardThen (hear (view reader) byte .event)) (hears-as-listener (taken reader byte .reader) bytes ∙ ap (λ (l : Listener). events l bytes) (joined reader byte))
 
 -- a fresh reader stands for a fresh listener
 from-fresh : (bytes : List ℕ) → events (view freshReader) bytes ≡ events fresh bytes
@@ -63,16 +63,16 @@ record Went (used : ℕ) (reader : Reader) (block : List ℕ) : Type 0 where
   pub inside : count ≤ length block
   pub to-the-end : fedFrom used reader block .event ≡ Nothing → count ≡ length block
   pub stands : fedFrom used reader block .reader ≡ afterBytes reader (take count block)
-  pub heard : heardBy reader block ≡ andThen (heardAs (fedFrom used reader block .event) (fedFrom used reader block .reader .body)) (heardBy (fedFrom used reader block .reader) (drop count block))
+  pub heard : heardBy reader block ≡ heardThen (heardAs (fedFrom used reader block .event) (fedFrom used reader block .reader .body)) (heardBy (fedFrom used reader block .reader) (drop count block))
 
 -- what is told of an answer, whichever of two equal answers is named
 tells : Fed → List ℕ → List Heard
-tells answer rest = andThen (heardAs (answer .event) (answer .reader .body)) (heardBy (answer .reader) rest)
+tells answer rest = heardThen (heardAs (answer .event) (answer .reader .body)) (heardBy (answer .reader) rest)
 
 module _ (used : ℕ) (reader : Reader) (byte : ℕ) (block : List ℕ) where
   -- a byte that told nothing: the rest goes on from there
   silent-byte : taken reader byte .event ≡ Nothing → Went (used + 1) (taken reader byte .reader) block → Went used reader (byte ∷ block)
-  unfolding fedFrom afterBytes heardBy andThen tells
+  unfolding fedFrom afterBytes heardBy heardThen tells
   silent-byte silent rest =
       let same : fedFrom used reader (byte ∷ block) ≡ fedFrom (used + 1) (taken reader byte .reader) block = rw silent in
       record {
@@ -82,14 +82,14 @@ module _ (used : ℕ) (reader : Reader) (byte : ℕ) (block : List ℕ) where
         to-the-end = λ none. ap suc (rest .to-the-end (ap (λ (f : Fed). f .event) (sym same) ∙ none));
         stands = ap (λ (f : Fed). f .reader) same ∙ rest .stands;
         heard =
-            ap (λ (event : Event). andThen (heardAs event (taken reader byte .reader .body)) (heardBy (taken reader byte .reader) block)) silent
+            ap (λ (event : Event). heardThen (heardAs event (taken reader byte .reader .body)) (heardBy (taken reader byte .reader) block)) silent
             ∙ rest .heard ∙ ap (λ (f : Fed). tells f (drop (rest .count) block)) (sym same);
       }
 
   -- a byte that told something is the last one taken
   spoken-byte : (f : Fed) → fedFrom used reader (byte ∷ block) ≡ f → f ≡ record { reader = taken reader byte .reader; event = taken reader byte .event; used = used + 1 }
       → (taken reader byte .event ≡ Nothing → ⊥) → Went used reader (byte ∷ block)
-  unfolding fedFrom afterBytes heardBy andThen tells
+  unfolding fedFrom afterBytes heardBy heardThen tells
   spoken-byte f is stopped spoken =
       let same = is ∙ stopped in
       record {
@@ -108,7 +108,7 @@ module _ (used : ℕ) (reader : Reader) (byte : ℕ) (block : List ℕ) where
   by-event rest (Refused why wire kept) e = spoken-byte _ refl (rw e) (λ none. let clash : Refused why wire kept ≡ Nothing = sym e ∙ none in let z : _≡_ {A = ℕ} 0 1 = cc in omega arith)
 
 went : (used : ℕ) (reader : Reader) (block : List ℕ) → Went used reader block
-unfolding fedFrom afterBytes heardBy andThen
+unfolding fedFrom afterBytes heardBy heardThen
 went used reader [] = record { count = 0; used-is = omega arith; inside = omega arith; to-the-end = λ _. refl; stands = refl; heard = refl }
 went used reader (byte ∷ block) = by-event used reader byte block (went (used + 1) (taken reader byte .reader) block) (taken reader byte .event) refl
 
@@ -129,7 +129,7 @@ heard-in-two : (reader : Reader) (first second : List ℕ) → heardBy reader (f
 unfolding heardBy afterBytes
 heard-in-two reader [] second = refl
 heard-in-two reader (byte ∷ first) second =
-    ap (andThen (heardAs (taken reader byte .event) (taken reader byte .reader .body))) (heard-in-two (taken reader byte .reader) first second)
+    ap (heardThen (heardAs (taken reader byte .event) (taken reader byte .reader .body))) (heard-in-two (taken reader byte .reader) first second)
     ∙ and-then-append (heardAs (taken reader byte .event) (taken reader byte .reader .body)) (heardBy (taken reader byte .reader) first) (heardBy (afterBytes (taken reader byte .reader) first) second)
 
 pub every-cut : EveryCut

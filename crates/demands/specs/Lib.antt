@@ -2,4 +2,5 @@ pub mod Examples
 pub mod Messages
 pub mod Noted
 pub mod Reading
+pub mod Unheard
 pub mod Wire

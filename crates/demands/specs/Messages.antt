@@ -32,8 +32,8 @@ use Rattle.message.specs.Writing.{judgedMessageWrite, writtenMessage}
 -- ---- "what is written reads back as the same message"
 
 -- the bytes that a write answers for: the first of the room, as many as the answered length
-abbrev pub bytesOf : Left → List ℕ
-bytesOf left = take (left .answer .length) (left .room)
+abbrev pub writtenBytes : Left → List ℕ
+writtenBytes left = take (left .answer .length) (left .room)
 
 -- some bytes are heard from fresh as one frame, whose body reads as a message with these parts
 pub record ReadsAs (role : Role) (address : Address) (code : ℕ) (data′ bytes : List ℕ) : Type 0 where
@@ -41,10 +41,10 @@ pub record ReadsAs (role : Role) (address : Address) (code : ℕ) (data′ bytes
   pub message : readMessage role (bodyOf address code data′) ≡ received-as.Message (messageOf role address code data′)
   pub stand : slice (messageOf role address code data′ .from) (messageOf role address code data′ .to) (bodyOf address code data′) ≡ data′
 
-abbrev pub WrittenReadsBack : Type 0
-WrittenReadsBack =
+abbrev pub MessageReadsBack : Type 0
+MessageReadsBack =
     (role : Role) (address : Address) (code : ℕ) (data′ room : List ℕ) → judgedMessageWrite role address code data′ room ≡ Good
-    → ReadsAs role address code data′ (bytesOf (writtenMessage role address code data′ room))
+    → ReadsAs role address code data′ (writtenBytes (writtenMessage role address code data′ room))
 
 -- ---- "each message that is accepted gives back its own body bytes when written again with its own role, address, code and data"
 
@@ -61,14 +61,14 @@ AcceptedWritesBack =
 -- ---- "a message is refused by 6, 7, 8 exactly as the table says"
 
 -- a claim holds exactly where another does
-abbrev pub Where : Type 0 → Type 0 → Type 0
-Where claim other = (claim → other) × (other → claim)
+abbrev pub ExactlyWhere : Type 0 → Type 0 → Type 0
+ExactlyWhere claim other = (claim → other) × (other → claim)
 
 -- of three tests, the first that fails refuses: 6, 7, 8 in this order; where all three hold, what is judged after them decides
 pub record FirstToFail (known sized right : Bool) (after verdict : Verdict) : Type 0 where
-  pub unknown : Where (verdict ≡ Refused CodeUnknown) (known ≡ false)
-  pub wrong-length : Where (verdict ≡ Refused LengthWrong) ((known ≡ true) × (sized ≡ false))
-  pub outside : Where (verdict ≡ Refused FieldOutside) ((known ≡ true) × ((sized ≡ true) × (right ≡ false)))
+  pub unknown : ExactlyWhere (verdict ≡ Refused CodeUnknown) (known ≡ false)
+  pub wrong-length : ExactlyWhere (verdict ≡ Refused LengthWrong) ((known ≡ true) × (sized ≡ false))
+  pub outside : ExactlyWhere (verdict ≡ Refused FieldOutside) ((known ≡ true) × ((sized ≡ true) × (right ≡ false)))
   pub passed : (known ≡ true) × ((sized ≡ true) × (right ≡ true)) → verdict ≡ after
 
 abbrev pub AsTheTableSays : Role → ℕ → List ℕ → Verdict → Verdict → Type 0

@@ -11,7 +11,7 @@ use Rattle.body.specs.Body.{bodyOf}
 use Rattle.frame.specs.Writing.{writtenFrame}
 use Rattle.line.specs.declared.places.Event.the-variants.{Nothing}
 use Rattle.line.specs.declared.reading.Reader.{Reader}
-use Rattle.line.specs.Listener.{Heard, frame, hear, andThen, events}
+use Rattle.line.specs.Listener.{Heard, frame, hear, heardThen, events}
 use Rattle.line.specs.Readers.{view, taken, heardAs, fed, freshReader}
 use Rattle.demands.specs.Wire.{Sent, AllProper, wireOf, heardOf, overBlocks}
 
@@ -35,7 +35,7 @@ afterBytes reader (byte ∷ bytes) = afterBytes (taken reader byte .reader) byte
 
 unfoldable pub heardBy : Reader → List ℕ → List Heard
 heardBy reader [] = []
-heardBy reader (byte ∷ bytes) = andThen (heardAs (taken reader byte .event) (taken reader byte .reader .body)) (heardBy (taken reader byte .reader) bytes)
+heardBy reader (byte ∷ bytes) = heardThen (heardAs (taken reader byte .event) (taken reader byte .reader .body)) (heardBy (taken reader byte .reader) bytes)
 
 abbrev pub HearsAsListener : Type 0
 HearsAsListener = (reader : Reader) (bytes : List ℕ) → heardBy reader bytes ≡ events (view reader) bytes
@@ -50,7 +50,7 @@ pub record AsBytes (reader : Reader) (block : List ℕ) : Type 0 where
   pub stands : fed reader block .reader ≡ afterBytes reader (take (fed reader block .used) block)
   pub heard :
       heardBy reader block
-      ≡ andThen (heardAs (fed reader block .event) (fed reader block .reader .body)) (heardBy (fed reader block .reader) (drop (fed reader block .used) block))
+      ≡ heardThen (heardAs (fed reader block .event) (fed reader block .reader .body)) (heardBy (fed reader block .reader) (drop (fed reader block .used) block))
 
 abbrev pub EveryBlock : Type 0
 EveryBlock = (reader : Reader) (block : List ℕ) → AsBytes reader block

@@ -9,7 +9,7 @@ use lib.ListN.{length}
 use Rattle.refusal.specs.declared.Verdict.{Verdict}
 use Rattle.refusal.specs.declared.Verdict.the-variants.{Good, Refused}
 use Rattle.body.specs.Body.{judged}
-use Rattle.line.specs.Listener.{State, Heard, Listener, Step, seeking, delimited, inside, held, nothing, frame, refused, keep, ended, hearIn, hear, tick, andThen, events}
+use Rattle.line.specs.Listener.{State, Heard, Listener, Step, seeking, delimited, inside, held, nothing, frame, refused, keep, ended, hearIn, hear, tick, heardThen, events}
 use Rattle.codes.specs.declared.table.Role.the-variants.{Reply}
 use Rattle.message.proofs.Checked.{handed-out as read-same}
 use Rattle.entries.specs.declared.entries.Entry.{Entry}
@@ -39,8 +39,8 @@ byte-same (inside kept) byte wire = either (eqb byte 0xFF) _ _ refl (kept-same k
 byte-same (held kept) byte wire =
     either (eqb byte 0xFE) _ _ (kept-same kept 0xFF wire) (either (eqb byte 0xFF) _ _ (ended-same (judged kept) kept wire refl) refl)
 
-then-same : (heard : Heard) (later : List Heard) → Same heard → map (entryIf true) later ≡ map entryHeard later → map (entryIf true) (andThen heard later) ≡ map entryHeard (andThen heard later)
-unfolding andThen
+then-same : (heard : Heard) (later : List Heard) → Same heard → map (entryIf true) later ≡ map entryHeard later → map (entryIf true) (heardThen heard later) ≡ map entryHeard (heardThen heard later)
+unfolding heardThen
 then-same nothing later p q = q
 then-same (frame wire kept body) later p q = ap₂ (λ (x : Entry) (xs : List Entry). x ∷ xs) p q
 then-same (refused why wire kept) later p q = ap₂ (λ (x : Entry) (xs : List Entry). x ∷ xs) p q

@@ -14,9 +14,9 @@ use Rattle.entries.specs.Entries.{entryOf, entryIf, entryHeard}
 pub entry-of-one : (received : Received) (a b : Entry) → a ≡ entryOf received → b ≡ entryOf received → a ≡ b
 entry-of-one received a b = one
 
-pub heard-checked-one : (right : Bool) (event : Event) (body : List ℕ) (a b : Entry)
+pub heard-without-check-one : (right : Bool) (event : Event) (body : List ℕ) (a b : Entry)
     → a ≡ entryIf right (heardAs event body) → b ≡ entryIf right (heardAs event body) → a ≡ b
-heard-checked-one right event body a b = one
+heard-without-check-one right event body a b = one
 
 pub heard-one : (event : Event) (body : List ℕ) (a b : Entry) → a ≡ entryHeard (heardAs event body) → b ≡ entryHeard (heardAs event body) → a ≡ b
 heard-one event body a b = one

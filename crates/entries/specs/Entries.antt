@@ -2,9 +2,10 @@
 use Prim.Native.Nat.{ℕ}
 use mathlib.Core.Bool.{Bool, true}
 use mathlib.Core.List.{List}
+use Rattle.refusal.specs.Numbers.{numberOf, lineStatus}
 use Rattle.body.specs.declared.addresses.Address.{Address}
 use Rattle.line.specs.Listener.{Heard, nothing, frame, refused}
-use Rattle.weight.specs.Bytes.{legal}
+use Rattle.weight.specs.Bytes.{inRange}
 use Rattle.codes.specs.declared.table.Role.the-variants.{Reply}
 use Rattle.meaning.specs.declared.meaning.What.{What}
 use Rattle.meaning.specs.declared.meaning.What.the-variants as says
@@ -47,9 +48,10 @@ entryHeard = entryBy (readMessage Reply)
 unfoldable pub entryIf : Bool → Heard → Entry
 entryIf right = entryBy (readIf right Reply)
 
--- "A reading handed in with a number above 999,999 or a point above 7 is refusal 8 wherever it is used."
+-- what may be listed, and is 8 otherwise: "A reading handed in with a number above 999,999 or a point above 7 is refusal 8 wherever it is
+-- used", and "refusals 1 to 8 all as the third line": no other is heard on a line
 abbrev pub sound : Entry → Bool
 sound Nothing = true
-sound (Weight load address reading) = legal reading
+sound (Weight load address reading) = inRange reading
 sound (Message address code) = true
-sound (Refused why) = true
+sound (Refused why) = lineStatus (numberOf why)

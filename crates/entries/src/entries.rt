@@ -6,7 +6,7 @@ use line::Event;
 use meaning::What;
 use message::Received;
 use message::read;
-use message::read_checked;
+use message::read_without_check;
 use refusal::Refusal;
 use room::front;
 use weight::Reading;
@@ -49,13 +49,17 @@ pub fn entry_of(received: Received) -> Entry
 // An event as it is to be listed, given whether the check of its body is right: a line hands out no other body, so that a listing
 // need not make it again. The body of a frame stands at the front of `body`, as the reader leaves it, and is read as a reply; of any other
 // event `body` is not looked at.
-pub fn heard_checked(right: bool, event: Event, body: &[u8]) -> Entry
+pub fn heard_without_check(right: bool, event: Event, body: &[u8]) -> Entry
     ensures { λ r. ⌜ r ≡ entryIf right (heardAs event (now (body .entry))) ⌝ }
 {
     match event {
         Event::Nothing => Entry::Nothing,
         Event::Refused(why, _, _) => Entry::Refused(why),
-        Event::Frame(_, place) => entry_of(read_checked(Role::Reply, right, front(body, place.0))),
+        Event::Frame(_, place) => entry_of(read_without_check(
+            Role::Reply,
+            right,
+            front(body, place.0),
+        )),
     }
 }
 
@@ -65,6 +69,6 @@ pub fn heard(event: Event, body: &[u8]) -> Entry
 {
     match event {
         Event::Frame(_, place) => entry_of(read(Role::Reply, front(body, place.0))),
-        _ => heard_checked(true, event, body),
+        _ => heard_without_check(true, event, body),
     }
 }

@@ -4,4 +4,4 @@ mod entries;
 pub use entries::Entry;
 pub use entries::entry_of;
 pub use entries::heard;
-pub use entries::heard_checked;
+pub use entries::heard_without_check;

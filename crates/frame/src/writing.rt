@@ -1,6 +1,6 @@
 // Frame writing: one FF, the body, two FFs, and one FE after each FF inside the body.
 use body::Address;
-use body::LONGEST;
+use body::LONGEST_BODY;
 use body::address_length;
 use body::legal;
 use check_byte::check_of;
@@ -131,7 +131,7 @@ fn prepare(address: Address, code: u8, data: &[u8], body: &mut [u8]) -> Needed
     if !legal(address) {
         return Needed::Refused(Refusal::AddressIllegal);
     }
-    if LONGEST < body_length(address, data) {
+    if LONGEST_BODY < body_length(address, data) {
         return Needed::Refused(Refusal::BodyLong);
     }
     let end = assemble(address, code, data, body);
@@ -143,7 +143,7 @@ fn prepare(address: Address, code: u8, data: &[u8], body: &mut [u8]) -> Needed
 pub fn room_needed(address: Address, code: u8, data: &[u8]) -> Needed
     ensures { λ r. ⌜ r ≡ neededFor address code (now («data» .entry)) ⌝ }
 {
-    let mut body = [0u8; LONGEST];
+    let mut body = [0u8; LONGEST_BODY];
     prepare(address, code, data, &mut body)
 }
 
@@ -151,7 +151,7 @@ pub fn room_needed(address: Address, code: u8, data: &[u8]) -> Needed
 pub fn write(address: Address, code: u8, data: &[u8], room: &mut [u8]) -> Written
     ensures { λ r. ⌜ Leaves (writtenFrame address code (now («data» .entry)) (now (room .entry))) r (now (room .exit)) ⌝ }
 {
-    let mut body = [0u8; LONGEST];
+    let mut body = [0u8; LONGEST_BODY];
     match prepare(address, code, data, &mut body) {
         Needed::Refused(why) => refused_write(why),
         Needed::Bytes(needed) => {

@@ -13,7 +13,8 @@ use Rattle.refusal.specs.declared.Refusal.the-variants.{BodyLong}
 use Rattle.refusal.specs.declared.Verdict.{Verdict}
 use Rattle.refusal.specs.declared.Verdict.the-variants.{Good}
 use Rattle.refusal.specs.declared.Verdict.the-variants as refusal-as
-use Rattle.body.specs.Body.{judged}
+use Rattle.body.specs.Body.{judged, judgedLent}
+use Rattle.body.proofs.Rebuilding.{lent-is}
 use Rattle.room.specs.Laying.{over}
 use Rattle.line.specs.declared.places.Phase.the-variants.{Seeking, Inside}
 use Rattle.line.specs.declared.places.Event.the-variants.{Nothing, Frame, Refused}
@@ -60,12 +61,16 @@ module _ (kept byte wire : ℕ) (body : List ℕ) where
       rw (le-ltb _ _ full) (record { answer = e; body = refl })
 
   -- a body that ended
-  pub ends-good : {verdict : Verdict} → kept ≤ length body → verdict ≡ judged (take kept body) → verdict ≡ Good
+  -- the kept bytes are at most 255, so that 2 is not earned
+  at-its-end : {verdict : Verdict} → kept ≤ 255 → kept ≤ length body → verdict ≡ judgedLent (take kept body) → verdict ≡ judged (take kept body)
+  at-its-end few h e = e ∙ lent-is (take kept body) (rw (length-take-le kept body h) few)
+
+  pub ends-good : {verdict : Verdict} → kept ≤ 255 → kept ≤ length body → verdict ≡ judgedLent (take kept body) → verdict ≡ Good
       → Frame (record { 0 = wire }) (record { 0 = kept }) ≡ eventOf (ended (judged (take kept body)) (take kept body) wire)
   unfolding ended
-  ends-good h e good = rw (← e, good, length-take-le kept body h)
+  ends-good few h e good = rw (← at-its-end few h e, good, length-take-le kept body h)
 
-  pub ends-refused : {verdict : Verdict} (why : Refusal) → kept ≤ length body → verdict ≡ judged (take kept body) → verdict ≡ refusal-as.Refused why
+  pub ends-refused : {verdict : Verdict} (why : Refusal) → kept ≤ 255 → kept ≤ length body → verdict ≡ judgedLent (take kept body) → verdict ≡ refusal-as.Refused why
       → Refused why (record { 0 = wire }) (record { 0 = kept }) ≡ eventOf (ended (judged (take kept body)) (take kept body) wire)
   unfolding ended
-  ends-refused why h e bad = rw (← e, bad, length-take-le kept body h)
+  ends-refused why few h e bad = rw (← at-its-end few h e, bad, length-take-le kept body h)

@@ -74,14 +74,14 @@ unfoldable pub hear : Listener → ℕ → Step
 hear listener byte = hearIn (listener .state) byte (tick (listener .wire))
 
 -- the events of a list of bytes, in order; a byte that gives none leaves none
-unfoldable pub andThen : Heard → List Heard → List Heard
-andThen nothing later = later
-andThen (frame wire kept body) later = frame wire kept body ∷ later
-andThen (refused why wire kept) later = refused why wire kept ∷ later
+unfoldable pub heardThen : Heard → List Heard → List Heard
+heardThen nothing later = later
+heardThen (frame wire kept body) later = frame wire kept body ∷ later
+heardThen (refused why wire kept) later = refused why wire kept ∷ later
 
 unfoldable pub events : Listener → List ℕ → List Heard
 events listener [] = []
-events listener (byte ∷ bytes) = andThen (hear listener byte .event) (events (hear listener byte .next) bytes)
+events listener (byte ∷ bytes) = heardThen (hear listener byte .event) (events (hear listener byte .next) bytes)
 
 -- the listener after a list of bytes
 unfoldable pub after : Listener → List ℕ → Listener

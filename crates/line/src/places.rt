@@ -1,4 +1,5 @@
 // The two counts that every event carries, and the small part of a reader's state: one byte moves it on.
+use body::LONGEST_BODY;
 use body::judge;
 use refusal::Refusal;
 use refusal::Verdict;
@@ -49,9 +50,6 @@ const DELIMITER: u8 = 0xFF;
 
 const INSERTED: u8 = 0xFE;
 
-// The most bytes a body has.
-const LONGEST: usize = 255;
-
 // A move that gives no event.
 fn quiet(phase: Phase, wire: u64, kept: usize) -> Moved
     ensures { λ r. ⌜ r ≡ record { place = record { phase = phase; wire = record { 0 = wire }; kept = record { 0 = kept } }; event = Event.Nothing } ⌝ }
@@ -85,11 +83,12 @@ fn keep_byte(byte: u8, wire: u64, kept: usize, body: &mut [u8; 255]) -> Moved
     requires { ⌜ (kept ≤ 255) × (length (now body) ≡ 255) ⌝ }
     ensures { λ r. ⌜ Keeps (keep (take kept (now (body .entry))) byte wire) (now (body .entry)) r (now (body .exit)) ⌝ }
 {
-    if LONGEST <= kept {
-        return refuse(Refusal::BodyLong, wire, LONGEST);
+    if LONGEST_BODY <= kept {
+        return refuse(Refusal::BodyLong, wire, LONGEST_BODY);
     }
     body[kept] = byte;
-    quiet(Phase::Inside, wire, kept + 1)
+    let count = kept + 1;
+    quiet(Phase::Inside, wire, count)
 }
 
 // A body has ended: the frame, or 1, 4, 5.
@@ -159,7 +158,7 @@ impl Place {
         ensures { λ r. ⌜ r ≡ soundPlace self ⌝ }
     {
         let kept = self.kept.0;
-        if LONGEST < kept {
+        if LONGEST_BODY < kept {
             return Place::fresh();
         }
         self

@@ -4,7 +4,7 @@ use crate::page::flush;
 use crate::page::front;
 use crate::page::put;
 use entries::Entry;
-use entries::heard_checked;
+use entries::heard_without_check;
 use line::Reader;
 use listing::write_line;
 use listing::write_total;
@@ -78,7 +78,7 @@ pub fn list_block(tally: Tally, block: &[u8], room: &mut [u8]) -> Tally {
         place = next;
         at += went.used;
         let event = went.event;
-        let entry = heard_checked(true, event, &reader.body);
+        let entry = heard_without_check(true, event, &reader.body);
         counts = counted(counts, entry);
         page = tell(counts.lines, entry, page, room);
     }

@@ -11,11 +11,12 @@ use codes::Load;
 use entries::Entry;
 use refusal::Refusal;
 use refusal::Verdict;
+use refusal::line_status;
 use room::Written;
 use room::lay;
 use room::refused_write;
 use weight::Reading;
-use weight::is_legal;
+use weight::in_range;
 ghost use mathlib.Core.Path.{_≡_};
 ghost use lib.ListN.{length};
 ghost use Rattle.room.specs.Writing.{Leaves};
@@ -24,13 +25,13 @@ ghost use Rattle.listing.specs.Lines.{lineOf, totalOf};
 ghost use Rattle.listing.specs.Writing.{Ahead, writtenText, writtenLine, writtenTotal};
 
 // The longest line: a total of three numbers of 20 digits. A weight line has at most 62 bytes.
-const LONGEST: usize = 85;
+const LONGEST_LINE: usize = 85;
 
 fn put_weight(number: u64, load: Load, address: Address, reading: Reading, text: &mut [u8]) -> usize
     requires { ⌜ length (now text) ≡ 85 ⌝ }
     ensures { λ r. ⌜ Ahead (lineOf number (Entry.Weight load address reading)) 85 (now (text .entry)) r (now (text .exit)) ⌝ }
 {
-    let behind_address = put_reading(reading, text, LONGEST);
+    let behind_address = put_reading(reading, text, LONGEST_LINE);
     let behind_load = put_address(address, text, behind_address);
     let behind_number = put_load(load, text, behind_load);
     put_decimal(number, text, behind_number)
@@ -40,7 +41,7 @@ fn put_message(number: u64, address: Address, code: u8, text: &mut [u8]) -> usiz
     requires { ⌜ length (now text) ≡ 85 ⌝ }
     ensures { λ r. ⌜ Ahead (lineOf number (Entry.Message address code)) 85 (now (text .entry)) r (now (text .exit)) ⌝ }
 {
-    let behind_address = put_code(code, text, LONGEST);
+    let behind_address = put_code(code, text, LONGEST_LINE);
     let behind_word = put_address(address, text, behind_address);
     let behind_number = put(b" message ", text, behind_word);
     put_decimal(number, text, behind_number)
@@ -50,7 +51,7 @@ fn put_refused(number: u64, why: Refusal, text: &mut [u8]) -> usize
     requires { ⌜ length (now text) ≡ 85 ⌝ }
     ensures { λ r. ⌜ Ahead (lineOf number (Entry.Refused why)) 85 (now (text .entry)) r (now (text .exit)) ⌝ }
 {
-    let end = put(b"\n", text, LONGEST);
+    let end = put(b"\n", text, LONGEST_LINE);
     let behind_number = put_counted(b" refused ", refusal::number(why) as u64, text, end);
     put_decimal(number, text, behind_number)
 }
@@ -61,7 +62,7 @@ fn put_line(number: u64, entry: Entry, text: &mut [u8]) -> usize
     ensures { λ r. ⌜ Ahead (lineOf number entry) 85 (now (text .entry)) r (now (text .exit)) ⌝ }
 {
     match entry {
-        Entry::Nothing => LONGEST,
+        Entry::Nothing => LONGEST_LINE,
         Entry::Weight(load, address, reading) => put_weight(number, load, address, reading, text),
         Entry::Message(address, code) => put_message(number, address, code, text),
         Entry::Refused(why) => put_refused(number, why, text),
@@ -73,21 +74,21 @@ fn put_total(total: u64, weights: u64, refused: u64, text: &mut [u8]) -> usize
     requires { ⌜ length (now text) ≡ 85 ⌝ }
     ensures { λ r. ⌜ Ahead (totalOf total weights refused) 85 (now (text .entry)) r (now (text .exit)) ⌝ }
 {
-    let end = put(b"\n", text, LONGEST);
+    let end = put(b"\n", text, LONGEST_LINE);
     let behind_weights = put_counted(b" refused ", refused, text, end);
     let behind_total = put_counted(b" weights ", weights, text, behind_weights);
     put_counted(b"total ", total, text, behind_total)
 }
 
-// 8 is for a reading whose number or point is out of its range.
+// 8 is for a reading whose number or point is out of its range, and for a refusal that no line can meet.
 fn is_sound(entry: Entry) -> bool
     ensures { λ r. ⌜ r ≡ sound entry ⌝ }
 {
     match entry {
         Entry::Nothing => true,
-        Entry::Weight(_, _, reading) => is_legal(reading),
+        Entry::Weight(_, _, reading) => in_range(reading),
         Entry::Message(_, _) => true,
-        Entry::Refused(_) => true,
+        Entry::Refused(why) => line_status(refusal::number(why)),
     }
 }
 
@@ -112,16 +113,16 @@ pub fn write_line(number: u64, entry: Entry, room: &mut [u8]) -> Written
     if !is_sound(entry) {
         return refused_write(Refusal::FieldOutside);
     }
-    let mut text = [0u8; LONGEST];
+    let mut text = [0u8; LONGEST_LINE];
     let place = put_line(number, entry, &mut text);
-    write_text(&text[place..LONGEST], room)
+    write_text(&text[place..LONGEST_LINE], room)
 }
 
 // The last line of a listing into lent room. Judged 9.
 pub fn write_total(total: u64, weights: u64, refused: u64, room: &mut [u8]) -> Written
     ensures { λ r. ⌜ Leaves (writtenTotal total weights refused (now (room .entry))) r (now (room .exit)) ⌝ }
 {
-    let mut text = [0u8; LONGEST];
+    let mut text = [0u8; LONGEST_LINE];
     let place = put_total(total, weights, refused, &mut text);
-    write_text(&text[place..LONGEST], room)
+    write_text(&text[place..LONGEST_LINE], room)
 }

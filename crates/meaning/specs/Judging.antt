@@ -22,9 +22,9 @@ unfoldable pub judgedData : Row → List ℕ → Verdict
 judgedData row data′ = refuseIf (not (lengthRight (lengthOf row) data′)) LengthWrong (refuseIf (not (fieldsRight row data′)) FieldOutside Good)
 
 -- a judge after a judge: what the first refuses stays refused
-abbrev pub andThen : Verdict → Verdict → Verdict
-andThen Good after = after
-andThen (Refused why) after = Refused why
+abbrev pub judgedThen : Verdict → Verdict → Verdict
+judgedThen Good after = after
+judgedThen (Refused why) after = Refused why
 
 -- 6
 unfoldable pub judgedCode : Role → ℕ → Verdict
@@ -32,7 +32,7 @@ judgedCode role code = refuseIf (not (inTable (rowOf role code))) CodeUnknown Go
 
 -- 6 ahead of 7, 8
 unfoldable pub judgedMessage : Role → ℕ → List ℕ → Verdict
-judgedMessage role code data′ = andThen (judgedCode role code) (judgedData (rowOf role code) data′)
+judgedMessage role code data′ = judgedThen (judgedCode role code) (judgedData (rowOf role code) data′)
 
 -- what is said under a verdict
 abbrev pub telling : Verdict → What → Told

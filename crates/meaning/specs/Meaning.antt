@@ -17,8 +17,8 @@ use Rattle.meaning.specs.declared.meaning.What.the-variants as says
 use Rattle.meaning.specs.Fields.{readIn}
 
 -- four bytes in their order
-abbrev pub bytesOf : Four → List ℕ
-bytesOf four = four .0 ∷ four .1 ∷ four .2 ∷ four .3 ∷ []
+abbrev pub fourBytes : Four → List ℕ
+fourBytes four = four .0 ∷ four .1 ∷ four .2 ∷ four .3 ∷ []
 
 -- "For C4 the library also tells how many of the 32 inputs are on."
 unfoldable pub onIn : List ℕ → ℕ

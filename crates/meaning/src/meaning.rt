@@ -23,7 +23,7 @@ ghost use Prim.Native.Nat.{_≤_};
 ghost use lib.ListN.{length};
 ghost use Rattle.low_first.specs.LowFirst.{lowFirst};
 ghost use Rattle.codes.specs.Lengths.{lengthOf, lengthRight};
-ghost use Rattle.meaning.specs.Meaning.{bytesOf};
+ghost use Rattle.meaning.specs.Meaning.{fourBytes};
 ghost use Rattle.meaning.specs.Judging.{within, said, told};
 
 // What a message says. A text, and the six bytes of an event, stand in the lent body from place `from` up to, not including, place `to`.
@@ -70,7 +70,7 @@ struct Four(u8, u8, u8, u8);
 
 fn four_in(data: &[u8]) -> Four
     requires { ⌜ length (now «data») ≡ 4 ⌝ }
-    ensures { λ r. ⌜ now («data» .entry) ≡ bytesOf r ⌝ }
+    ensures { λ r. ⌜ now («data» .entry) ≡ fourBytes r ⌝ }
 {
     let first = data[0];
     let second = data[1];

@@ -9,13 +9,13 @@ use Rattle.refusal.specs.declared.Verdict.the-variants.{Good}
 use Rattle.check_byte.specs.Register.{received}
 use Rattle.body.specs.Body.{checkRight, judged, judgedLent, codeIn, dataIn}
 use Rattle.body.specs.Addresses.{addressIn}
-use Rattle.meaning.specs.Judging.{andThen, judgedMessage}
+use Rattle.meaning.specs.Judging.{judgedThen, judgedMessage}
 use Rattle.body.proofs.Rebuilding.{good-check}
 use Rattle.codes.specs.declared.table.Role.{Role}
 use Rattle.message.specs.Reading.{messageOf, judgedBody, receiving, readIf, readMessage}
 
 -- the paper's order, spelled out
-pub in-order : (role : Role) (body : List ℕ) → judgedBody role body ≡ andThen (judgedLent body) (judgedMessage role (codeIn body) (dataIn body))
+pub in-order : (role : Role) (body : List ℕ) → judgedBody role body ≡ judgedThen (judgedLent body) (judgedMessage role (codeIn body) (dataIn body))
 unfolding judgedBody judgedLent
 in-order role body = refl
 

@@ -1,4 +1,5 @@
 pub mod Checked
+pub mod OnLine
 pub mod Opening
 pub mod Order
 pub mod OneAnswer

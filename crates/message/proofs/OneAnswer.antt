@@ -14,8 +14,8 @@ use Rattle.message.specs.declared.reading.Received.{Received}
 use Rattle.message.specs.Reading.{readIf, readMessage}
 use Rattle.message.specs.Writing.{writtenMessage}
 
-pub read-checked-one : (role : Role) (right : Bool) (body : List ℕ) (a b : Received) → a ≡ readIf right role body → b ≡ readIf right role body → a ≡ b
-read-checked-one role right body a b = one
+pub read-without-check-one : (role : Role) (right : Bool) (body : List ℕ) (a b : Received) → a ≡ readIf right role body → b ≡ readIf right role body → a ≡ b
+read-without-check-one role right body a b = one
 
 pub read-one : (role : Role) (body : List ℕ) (a b : Received) → a ≡ readMessage role body → b ≡ readMessage role body → a ≡ b
 read-one role body a b = one

@@ -21,18 +21,18 @@ use Rattle.body.proofs.Shortness.{good-not-short}
 use Rattle.codes.specs.declared.table.Role.{Role}
 use Rattle.message.specs.declared.reading.Message.{Message}
 use Rattle.message.specs.declared.reading.Received.the-variants as received-as
-use Rattle.meaning.specs.Judging.{andThen, judgedMessage}
+use Rattle.meaning.specs.Judging.{judgedThen, judgedMessage}
 use Rattle.message.specs.Reading.{messageOf, judgedBody, receiving, readIf, readMessage}
 use Rattle.message.specs.Writing.{judgedMessageWrite}
 use Rattle.message.proofs.Checked.{in-order, read-so}
 use Rattle.message.proofs.Opening.{data-end}
 
 -- of two judges one after the other that say Good, each does
-pub first-good : (first second : Verdict) → andThen first second ≡ Good → first ≡ Good
+pub first-good : (first second : Verdict) → judgedThen first second ≡ Good → first ≡ Good
 first-good Good second e = refl
 first-good (Refused why) second e = refused-not-good e
 
-pub second-good : (first second : Verdict) → andThen first second ≡ Good → second ≡ Good
+pub second-good : (first second : Verdict) → judgedThen first second ≡ Good → second ≡ Good
 second-good Good second e = e
 second-good (Refused why) second e = refused-not-good e
 

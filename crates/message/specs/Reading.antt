@@ -15,7 +15,7 @@ use Rattle.message.specs.declared.reading.Received.{Received}
 use Rattle.message.specs.declared.reading.Received.the-variants as received-as
 use Rattle.codes.specs.Table.{rowOf}
 use Rattle.meaning.specs.Meaning.{dataFrom, meaning}
-use Rattle.meaning.specs.Judging.{andThen, judgedMessage}
+use Rattle.meaning.specs.Judging.{judgedThen, judgedMessage}
 
 -- the message of an address, a code and data: in its body the data stand behind the code
 unfoldable pub messageOf : Role → Address → ℕ → List ℕ → Message
@@ -24,7 +24,7 @@ messageOf role address code data′ =
 
 -- a lent body, given whether its check is right: 2, 1, 4, 5, and then 6, 7, 8
 abbrev pub judgedBodyIf : Bool → Role → List ℕ → Verdict
-judgedBodyIf right role body = andThen (judgedLentIf right body) (judgedMessage role (codeIn body) (dataIn body))
+judgedBodyIf right role body = judgedThen (judgedLentIf right body) (judgedMessage role (codeIn body) (dataIn body))
 
 unfoldable pub judgedBody : Role → List ℕ → Verdict
 judgedBody role body = judgedBodyIf (checkRight body) role body

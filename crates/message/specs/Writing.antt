@@ -9,12 +9,12 @@ use Rattle.body.specs.Body.{bodyOf}
 use Rattle.frame.specs.Stuffing.{framed, needed}
 use Rattle.frame.specs.Writing.{judgedAddress, judgedLength}
 use Rattle.codes.specs.declared.table.Role.{Role}
-use Rattle.meaning.specs.Judging.{andThen, judgedMessage}
+use Rattle.meaning.specs.Judging.{judgedThen, judgedMessage}
 
 -- 5; 6, 7, 8; 2; 9
 unfoldable pub judgedMessageWrite : Role → Address → ℕ → List ℕ → List ℕ → Verdict
 judgedMessageWrite role address code data′ room =
-    judgedAddress address (andThen (judgedMessage role code data′) (judgedLength (bodyOf address code data′) (judgedRoom (needed (bodyOf address code data′)) room)))
+    judgedAddress address (judgedThen (judgedMessage role code data′) (judgedLength (bodyOf address code data′) (judgedRoom (needed (bodyOf address code data′)) room)))
 
 -- the message's frame in the first bytes of the room, every other byte as it stood; refused, every byte as it stood
 unfoldable pub writtenMessage : Role → Address → ℕ → List ℕ → List ℕ → Left

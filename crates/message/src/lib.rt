@@ -5,5 +5,5 @@ mod writing;
 pub use reading::Message;
 pub use reading::Received;
 pub use reading::read;
-pub use reading::read_checked;
+pub use reading::read_without_check;
 pub use writing::write;

@@ -2,7 +2,7 @@
 use body::Address;
 use body::Opened;
 use body::check_right;
-use body::open_checked;
+use body::open_without_check;
 use codes::Role;
 use meaning::Told;
 use meaning::What;
@@ -29,10 +29,10 @@ pub enum Received {
 
 // A lent body read in a role, given whether its check is right. Judged 2, 1, 4, 5, and then 6, 7, 8. The check of a body that a
 // line handed out was found right there: it need not be made again.
-pub fn read_checked(role: Role, right: bool, body: &[u8]) -> Received
+pub fn read_without_check(role: Role, right: bool, body: &[u8]) -> Received
     ensures { λ r. ⌜ r ≡ readIf right role (now (body .entry)) ⌝ }
 {
-    match open_checked(right, body) {
+    match open_without_check(right, body) {
         Opened::Refused(why) => Received::Refused(why),
         Opened::Parts(parts) => {
             let address = parts.address;
@@ -57,5 +57,5 @@ pub fn read_checked(role: Role, right: bool, body: &[u8]) -> Received
 pub fn read(role: Role, body: &[u8]) -> Received
     ensures { λ r. ⌜ r ≡ readMessage role (now (body .entry)) ⌝ }
 {
-    read_checked(role, check_right(body), body)
+    read_without_check(role, check_right(body), body)
 }

@@ -12,7 +12,7 @@ use refusal::Refusal;
 use refusal::number;
 ghost use mathlib.Core.Path.{_≡_};
 ghost use Rattle.listing.specs.Writing.{writtenTotal};
-ghost use Rattle.crossing.specs.Writing.{Leaves};
+ghost use Rattle.crossing.specs.Writing.{LeavesAcross};
 ghost use Rattle.quay_listing.specs.Lines.{entryNumber, unlisted, Lists, ListsEntry};
 
 // The line's length, or 0 beside a refusal; and what was listed, for the counts of the total.
@@ -81,7 +81,7 @@ pub extern "C" fn quay_list_total(
     refused: u64,
     room: &mut [u8],
 ) -> QuayWritten
-    ensures { λ r. ⌜ Leaves (writtenTotal total weights refused (now (room .entry))) r (now (room .exit)) ⌝ }
+    ensures { λ r. ⌜ LeavesAcross (writtenTotal total weights refused (now (room .entry))) r (now (room .exit)) ⌝ }
 {
     let written = write_total(total, weights, refused, room);
     written_out(written)

@@ -6,7 +6,7 @@ use Rattle.refusal.specs.Numbers.{numberOf}
 use Rattle.body.specs.Addresses.{firstByte, serialOf}
 use Rattle.weight.specs.declared.Packed.{Packed}
 use Rattle.weight.specs.declared.Packed.the-variants as packed-as
-use Rattle.weight.specs.Bytes.{bytesOf}
+use Rattle.weight.specs.Bytes.{packedOf}
 use Rattle.meaning.specs.declared.meaning.What.{What}
 use Rattle.meaning.specs.declared.meaning.What.the-variants as says
 use Rattle.message.specs.declared.reading.Message.{Message}
@@ -28,24 +28,31 @@ abbrev pub weightOut : Packed → QuayWeight
 weightOut (packed-as.Bytes w0 w1 w2 con) = record { w0 = w0; w1 = w1; w2 = w2; con = con }
 weightOut (packed-as.Refused why) = noWeight
 
+-- all ones: above every number that is said, and above 32 inputs
+abbrev pub noNumber : ℕ
+noNumber = 18_446_744_073_709_551_615
+
+abbrev pub noCount : ℕ
+noCount = 4_294_967_295
+
 abbrev pub plain : ℕ → ℕ → ℕ → QuayWhat
 plain kind number on = record { number = number; from = 0; to = 0; on = on; weight = noWeight; load = 0; says = kind }
 
 abbrev pub placed : ℕ → ℕ → ℕ → ℕ → QuayWhat
-placed kind number from to = record { number = number; from = from; to = to; on = 0; weight = noWeight; load = 0; says = kind }
+placed kind number from to = record { number = number; from = from; to = to; on = noCount; weight = noWeight; load = 0; says = kind }
 
 abbrev pub whatOut : What → QuayWhat
-whatOut says.Nothing = plain 0 0 0
-whatOut (says.Serial serial) = plain 1 serial 0
-whatOut (says.Number number) = plain 2 number 0
-whatOut (says.Status status) = plain 3 status 0
-whatOut (says.Weight load reading) = record { number = 0; from = 0; to = 0; on = 0; weight = weightOut (bytesOf reading); load = kindOf load; says = 4 }
+whatOut says.Nothing = plain 0 noNumber noCount
+whatOut (says.Serial serial) = plain 1 serial noCount
+whatOut (says.Number number) = plain 2 number noCount
+whatOut (says.Status status) = plain 3 status noCount
+whatOut (says.Weight load reading) = record { number = noNumber; from = 0; to = 0; on = noCount; weight = weightOut (packedOf reading); load = kindOf load; says = 4 }
 whatOut (says.Inputs bits on) = plain 5 bits on
-whatOut (says.Outputs bits) = plain 6 bits 0
+whatOut (says.Outputs bits) = plain 6 bits noCount
 whatOut (says.Text number from to) = placed 7 number from to
 whatOut (says.Event event from to) = placed 8 event from to
-whatOut (says.Converter number) = plain 9 number 0
-whatOut (says.Error error) = plain 10 error 0
+whatOut (says.Converter number) = plain 9 number noCount
+whatOut (says.Error error) = plain 10 error noCount
 
 abbrev pub messageOut : Message → QuayMessage
 messageOut message = record {
@@ -59,7 +66,7 @@ messageOut message = record {
 }
 
 abbrev pub noMessage : Refusal → QuayMessage
-noMessage why = record { what = plain 0 0 0; from = 0; to = 0; serial = 0; short = 0; code = 0; refusal = numberOf why }
+noMessage why = record { what = plain 0 noNumber noCount; from = 0; to = 0; serial = 0; short = 0; code = 0; refusal = numberOf why }
 
 abbrev pub receivedOut : Received → QuayMessage
 receivedOut (received-as.Message message) = messageOut message

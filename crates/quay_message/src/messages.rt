@@ -14,11 +14,11 @@ use weight::Packed;
 use weight::Reading;
 use weight::to_bytes;
 ghost use mathlib.Core.Path.{_≡_};
-ghost use Rattle.weight.specs.Bytes.{bytesOf};
+ghost use Rattle.weight.specs.Bytes.{packedOf};
 ghost use Rattle.crossing.specs.Roles.{roleFrom};
 ghost use Rattle.quay_message.specs.Messages.{noWeight, weightOut, plain, placed, whatOut, messageOut, noMessage, receivedOut, messageIn};
 
-// What a message says. Fields that its kind does not have are 0, and its weight four times FF.
+// What a message says. A number, a count or a weight that its kind does not have is all ones, and so nothing that could be said.
 #[repr(C)]
 pub struct QuayWhat {
     pub number: u64, // serial, NUM, status, the bits of inputs or outputs, EVENT, the converter's number, NER
@@ -29,6 +29,11 @@ pub struct QuayWhat {
     pub load: u8, // 1 gross, 2 net
     pub says: u8, // 0 nothing, 1 serial, 2 number, 3 status, 4 weight, 5 inputs, 6 outputs, 7 text, 8 event, 9 converter, 10 error
 }
+
+// All ones: above every number that is said (the converter's has 40 bits), and above 32 inputs.
+const NO_NUMBER: u64 = 18_446_744_073_709_551_615;
+
+const NO_COUNT: u32 = 4_294_967_295;
 
 // A message, or the refusal its body earns.
 #[repr(C)]
@@ -54,7 +59,7 @@ fn no_weight() -> QuayWeight
 }
 
 fn weight_out(reading: Reading) -> QuayWeight
-    ensures { λ r. ⌜ r ≡ weightOut (bytesOf reading) ⌝ }
+    ensures { λ r. ⌜ r ≡ weightOut (packedOf reading) ⌝ }
 {
     match to_bytes(reading) {
         Packed::Bytes { w0, w1, w2, con } => QuayWeight { w0, w1, w2, con },
@@ -85,7 +90,7 @@ fn placed(says: u8, number: u8, from: usize, to: usize) -> QuayWhat
         number: number as u64,
         from,
         to,
-        on: 0,
+        on: NO_COUNT,
         weight: no_weight(),
         load: 0,
         says,
@@ -96,25 +101,25 @@ fn what_out(what: What) -> QuayWhat
     ensures { λ r. ⌜ r ≡ whatOut what ⌝ }
 {
     match what {
-        What::Nothing => plain(0, 0, 0),
-        What::Serial(serial) => plain(1, serial as u64, 0),
-        What::Number(number) => plain(2, number as u64, 0),
-        What::Status(status) => plain(3, status as u64, 0),
+        What::Nothing => plain(0, NO_NUMBER, NO_COUNT),
+        What::Serial(serial) => plain(1, serial as u64, NO_COUNT),
+        What::Number(number) => plain(2, number as u64, NO_COUNT),
+        What::Status(status) => plain(3, status as u64, NO_COUNT),
         What::Weight(load, reading) => QuayWhat {
-            number: 0,
+            number: NO_NUMBER,
             from: 0,
             to: 0,
-            on: 0,
+            on: NO_COUNT,
             weight: weight_out(reading),
             load: kind_of(load),
             says: 4,
         },
         What::Inputs { bits, on } => plain(5, bits as u64, on),
-        What::Outputs(bits) => plain(6, bits as u64, 0),
+        What::Outputs(bits) => plain(6, bits as u64, NO_COUNT),
         What::Text { number, from, to } => placed(7, number, from, to),
         What::Event { event, from, to } => placed(8, event, from, to),
-        What::Converter(number) => plain(9, number, 0),
-        What::Error(error) => plain(10, error as u64, 0),
+        What::Converter(number) => plain(9, number, NO_COUNT),
+        What::Error(error) => plain(10, error as u64, NO_COUNT),
     }
 }
 
@@ -138,7 +143,7 @@ fn no_message(why: Refusal) -> QuayMessage
     ensures { λ r. ⌜ r ≡ noMessage why ⌝ }
 {
     QuayMessage {
-        what: plain(0, 0, 0),
+        what: plain(0, NO_NUMBER, NO_COUNT),
         from: 0,
         to: 0,
         serial: 0,

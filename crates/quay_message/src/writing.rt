@@ -7,7 +7,7 @@ use crossing::written_out;
 use room::refused_write;
 ghost use Rattle.frame.specs.Writing.{writtenFrame};
 ghost use Rattle.crossing.specs.Roles.{roleFrom};
-ghost use Rattle.crossing.specs.Writing.{Leaves};
+ghost use Rattle.crossing.specs.Writing.{LeavesAcross};
 ghost use Rattle.quay_message.specs.Addresses.{addressFrom};
 ghost use Rattle.quay_message.specs.Writing.{writtenIn};
 
@@ -20,7 +20,7 @@ pub extern "C" fn quay_write_frame(
     data: &[u8],
     room: &mut [u8],
 ) -> QuayWritten
-    ensures { λ r. ⌜ Leaves (writtenFrame (addressFrom short serial) code (now («data» .entry)) (now (room .entry))) r (now (room .exit)) ⌝ }
+    ensures { λ r. ⌜ LeavesAcross (writtenFrame (addressFrom short serial) code (now («data» .entry)) (now (room .entry))) r (now (room .exit)) ⌝ }
 {
     let written = frame::write(address_from(short, serial), code, data, room);
     written_out(written)
@@ -36,7 +36,7 @@ pub extern "C" fn quay_write_message(
     data: &[u8],
     room: &mut [u8],
 ) -> QuayWritten
-    ensures { λ r. ⌜ Leaves (writtenIn (roleFrom role) short serial code (now («data» .entry)) (now (room .entry))) r (now (room .exit)) ⌝ }
+    ensures { λ r. ⌜ LeavesAcross (writtenIn (roleFrom role) short serial code (now («data» .entry)) (now (room .entry))) r (now (room .exit)) ⌝ }
 {
     match role_from(role) {
         Asked::Refused(why) => written_out(refused_write(why)),

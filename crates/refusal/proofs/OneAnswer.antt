@@ -1,10 +1,11 @@
 -- Shown: each promise of this crate admits one answer, and so does every promise that is an equation with a definition.
 -- Why: two answers that meet it are equal by way of that definition.
 use Prim.Native.Nat.{ℕ}
+use mathlib.Core.Bool.{Bool}
 use mathlib.Core.Path.{_≡_, _∙_, sym}
 use Rattle.refusal.specs.declared.Refusal.{Refusal}
 use Rattle.refusal.specs.declared.Named.{Named}
-use Rattle.refusal.specs.Numbers.{numberOf, namedOf}
+use Rattle.refusal.specs.Numbers.{numberOf, namedOf, lineStatus}
 
 -- the law behind every `NAME-one`: two answers that are both the defined one are equal
 pub one {ℓ} : {A : Type ℓ} {defined a b : A} → a ≡ defined → b ≡ defined → a ≡ b
@@ -15,3 +16,6 @@ number-one refusal a b = one
 
 pub of-number-one : (number : ℕ) (a b : Named) → a ≡ namedOf number → b ≡ namedOf number → a ≡ b
 of-number-one number a b = one
+
+pub line-status-one : (number : ℕ) (a b : Bool) → a ≡ lineStatus number → b ≡ lineStatus number → a ≡ b
+line-status-one number a b = one

@@ -1,8 +1,8 @@
 -- 01, "What the answers mean": the number of each refusal, and verdicts that are reached in an order.
 use Prim.Native.Nat.{ℕ}
-use mathlib.Core.Bool.{Bool, true, false, cond}
+use mathlib.Core.Bool.{Bool, true, false, cond, _&&_}
 use mathlib.Core.List.{List, [], _∷_}
-use lib.Dec.{eqb}
+use lib.Dec.{leb, eqb}
 use Rattle.refusal.specs.declared.Refusal.{Refusal}
 use Rattle.refusal.specs.declared.Refusal.the-variants.{BodyShort, BodyLong, HeldBroken, CheckWrong, AddressIllegal, CodeUnknown, LengthWrong, FieldOutside, RoomShort, LogLeftOver, RecordBroken}
 use Rattle.refusal.specs.declared.Named.{Named}
@@ -35,6 +35,10 @@ namedIn (why ∷ rows) number = cond (eqb number (numberOf why)) (named-as.Refus
 
 unfoldable pub namedOf : ℕ → Named
 namedOf number = namedIn all number
+
+-- the refusals that a line can meet, by their numbers. "Log records": "Kind 3 is a refusal met on the line: status 1 to 8"
+abbrev pub lineStatus : ℕ → Bool
+lineStatus number = leb 1 number && leb number 8
 
 -- the number of a verdict: 0 where nothing is refused
 abbrev pub verdictNumber : Verdict → ℕ

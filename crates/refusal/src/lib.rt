@@ -1,7 +1,7 @@
 // The numbered refusals of the rules paper ("What the answers mean"), and the verdict that every judge
 // of the layers above gives.
 ghost use mathlib.Core.Path.{_≡_};
-ghost use Rattle.refusal.specs.Numbers.{numberOf, namedOf};
+ghost use Rattle.refusal.specs.Numbers.{numberOf, namedOf, lineStatus};
 
 // One case for each number of the paper's list, named by its meaning.
 pub enum Refusal {
@@ -47,6 +47,13 @@ pub fn number(refusal: Refusal) -> u8
         Refusal::LogLeftOver => 10,
         Refusal::RecordBroken => 11,
     }
+}
+
+// Whether a line can meet the refusal with this number; the others are of writing, and of a log.
+pub fn line_status(number: u8) -> bool
+    ensures { λ r. ⌜ r ≡ lineStatus number ⌝ }
+{
+    (1 <= number) & (number <= 8)
 }
 
 // The refusal of a number, as a caller of another language or a log's record has it.

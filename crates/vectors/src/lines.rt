@@ -14,7 +14,8 @@ use line::Phase;
 use line::Place;
 use line::Reader;
 use line::WirePlace;
-use refusal::Refusal;
+use refusal::Named;
+use refusal::of_number;
 use room::lay;
 ghost use Prim.Native.Nat.{_<_, _≤_};
 
@@ -36,26 +37,15 @@ fn take_place() -> Place {
     }
 }
 
-// The refusals of the line, by their numbers.
-fn refusal_of(number: u8) -> Refusal {
-    match number {
-        1 => Refusal::BodyShort,
-        2 => Refusal::BodyLong,
-        3 => Refusal::HeldBroken,
-        4 => Refusal::CheckWrong,
-        _ => Refusal::AddressIllegal,
-    }
-}
-
-// The refusal's number or 0 for a frame, eight bytes of the wire count, eight of the kept count.
+// The refusal's number or that of none for a frame, eight bytes of the wire count, eight of the kept count.
 pub fn take_event() -> Event {
     let number = take_byte();
     let wire = WirePlace(take_number());
     let kept = BodyPlace(take_number() as usize);
-    if number == 0 {
-        return Event::Frame(wire, kept);
+    match of_number(number) {
+        Named::Unknown => Event::Frame(wire, kept),
+        Named::Refusal(why) => Event::Refused(why, wire, kept),
     }
-    Event::Refused(refusal_of(number), wire, kept)
 }
 
 // A state with some bytes at the front of its 255, zeros behind them.

@@ -4,14 +4,15 @@ use crate::given::take_number;
 use crate::given::take_role;
 use crate::given::take_word;
 use crate::lines::take_event;
+use crate::weights::say_read;
 use crate::words::say_bytes;
 use crate::words::say_good;
 use crate::words::say_number;
 use crate::words::say_refusal;
 use crate::words::say_refused;
 use crate::words::say_small;
-use records::Entry;
 use records::Record;
+use records::RecordRead;
 use room::Written;
 use weighing_log::Noted;
 use weighing_log::Stepped;
@@ -43,8 +44,8 @@ fn say_record(record: Record) {
 // Bytes; their record.
 pub fn read(text: &[u8]) {
     match records::read_record(text) {
-        Entry::Refused(why) => say_refusal(why),
-        Entry::Record(record) => {
+        RecordRead::Refused(why) => say_refusal(why),
+        RecordRead::Record(record) => {
             say_good();
             say_record(record)
         }
@@ -77,6 +78,11 @@ pub fn step(text: &[u8]) {
         }
         Stepped::Refused(why) => say_refused(why),
     }
+}
+
+// A record; the weight that it notes.
+pub fn noted() {
+    say_read(records::weight_noted(take_record()))
 }
 
 // Lent room and a record.

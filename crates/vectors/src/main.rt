@@ -19,7 +19,7 @@ use room::Written;
 use words::say_written;
 
 // From this number on the functions write into lent room.
-const FIRST_WRITER: u8 = 23;
+const FIRST_WRITER: u8 = 24;
 
 // The functions, each under its number.
 fn tell(function: u8, text: &[u8]) {
@@ -45,17 +45,18 @@ fn tell(function: u8, text: &[u8]) {
         19 => messages::read(text),
         20 => logs::read(text),
         21 => logs::heard(text),
-        _ => logs::step(text),
+        22 => logs::step(text),
+        _ => logs::noted(),
     }
 }
 
 // Those that write into lent room.
 fn write(function: u8, text: &[u8], room: &mut [u8]) -> Written {
     match function {
-        23 => frames::write(text, room),
-        24 => messages::write(text, room),
-        25 => logs::write(room),
-        26 => listings::write_line(text, room),
+        24 => frames::write(text, room),
+        25 => messages::write(text, room),
+        26 => logs::write(room),
+        27 => listings::write_line(text, room),
         _ => listings::write_total(room),
     }
 }

@@ -13,9 +13,8 @@ use weight::Packed;
 use weight::Read;
 use weight::Value;
 
-// W0 W1 W2 CON; a reading.
-pub fn read() {
-    match weight::read_bytes(take_byte(), take_byte(), take_byte(), take_byte()) {
+pub fn say_read(read: Read) {
+    match read {
         Read::Refused(why) => say_refusal(why),
         Read::Good(reading) => {
             say_good();
@@ -24,9 +23,14 @@ pub fn read() {
     }
 }
 
+// W0 W1 W2 CON; a reading.
+pub fn read() {
+    say_read(weight::read_bytes(take_byte(), take_byte(), take_byte(), take_byte()))
+}
+
 // A reading; whether its number and its point lie in their ranges.
 pub fn legal() {
-    say_flag(weight::is_legal(take_reading()))
+    say_flag(weight::in_range(take_reading()))
 }
 
 // A reading; its four bytes.

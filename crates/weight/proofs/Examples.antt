@@ -10,7 +10,7 @@ use Rattle.weight.specs.declared.Reading.{Reading}
 use Rattle.weight.specs.declared.Read.the-variants.{Good, Refused as NotRead}
 use Rattle.weight.specs.declared.Packed.the-variants.{Bytes, Refused as NotPacked}
 use Rattle.weight.specs.declared.Value.the-variants.{Tenths, Refused}
-use Rattle.weight.specs.Bytes.{legal, readOf, bytesOf}
+use Rattle.weight.specs.Bytes.{inRange, readOf, packedOf}
 use Rattle.weight.specs.Tenths.{valueOf, differenceOf}
 
 -- a reading without overload and with bits 6 and 5 clear: sign bit, number, point, settled
@@ -27,7 +27,7 @@ unfolding readOf
 e3-read = refl
 
 pub e3-value : valueOf e3-reading ≡ Tenths (pos 251000000)
-unfolding valueOf legal
+unfolding valueOf inRange
 e3-value = refl
 
 -- E4: minus 0.5 kg, settled
@@ -39,21 +39,21 @@ unfolding readOf
 e4-read = refl
 
 pub e4-value : valueOf e4-reading ≡ Tenths (negℤ (pos 5000000))
-unfolding valueOf legal
+unfolding valueOf inRange
 e4-value = refl
 
 -- "Gross less net is a signed difference and may be negative."
 pub e3-less-e4 : differenceOf e3-reading e4-reading ≡ Tenths (pos 256000000)
-unfolding differenceOf valueOf legal
+unfolding differenceOf valueOf inRange
 e3-less-e4 = refl
 
 pub e4-less-e3 : differenceOf e4-reading e3-reading ≡ Tenths (negℤ (pos 256000000))
-unfolding differenceOf valueOf legal
+unfolding differenceOf valueOf inRange
 e4-less-e3 = refl
 
 -- "The largest is 9,999,990,000,000."
 pub largest-value : valueOf (shown false 999999 0 true) ≡ Tenths (pos 9999990000000)
-unfolding valueOf legal
+unfolding valueOf inRange
 largest-value = refl
 
 -- "Minus zero is 0 in value and keeps its sign bit in the reading."
@@ -61,11 +61,11 @@ abbrev pub minus-zero : Reading
 minus-zero = shown true 0 0 true
 
 pub minus-zero-value : valueOf minus-zero ≡ Tenths (pos 0)
-unfolding valueOf legal
+unfolding valueOf inRange
 minus-zero-value = refl
 
-pub minus-zero-bytes : bytesOf minus-zero ≡ Bytes 0x00 0x00 0x00 0x90
-unfolding bytesOf legal
+pub minus-zero-bytes : packedOf minus-zero ≡ Bytes 0x00 0x00 0x00 0x90
+unfolding packedOf inRange
 minus-zero-bytes = refl
 
 -- ---- `FieldOutside` is refusal 8: a half above 9, a number above 999,999, a point above 7, in either reading
@@ -77,14 +77,14 @@ pub half-of-ten : readOf 0x0A 0x00 0x00 0x00 ≡ NotRead FieldOutside
 unfolding readOf
 half-of-ten = refl
 
-pub seven-digits : bytesOf (shown false 1000000 0 true) ≡ NotPacked FieldOutside
-unfolding bytesOf legal
+pub seven-digits : packedOf (shown false 1000000 0 true) ≡ NotPacked FieldOutside
+unfolding packedOf inRange
 seven-digits = refl
 
 pub point-of-8 : valueOf (shown false 0 8 true) ≡ Refused FieldOutside
-unfolding valueOf legal
+unfolding valueOf inRange
 point-of-8 = refl
 
 pub net-outside : differenceOf e3-reading (shown false 0 8 true) ≡ Refused FieldOutside
-unfolding differenceOf legal
+unfolding differenceOf inRange
 net-outside = refl

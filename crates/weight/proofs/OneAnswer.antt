@@ -8,13 +8,13 @@ use Rattle.weight.specs.declared.Reading.{Reading}
 use Rattle.weight.specs.declared.Read.{Read}
 use Rattle.weight.specs.declared.Packed.{Packed}
 use Rattle.weight.specs.declared.Value.{Value}
-use Rattle.weight.specs.Bytes.{legal, readOf, bytesOf}
+use Rattle.weight.specs.Bytes.{inRange, readOf, packedOf}
 use Rattle.weight.specs.Tenths.{valueOf, differenceOf}
 
 pub read-bytes-one : (w0 w1 w2 con : ℕ) (a b : Read) → a ≡ readOf w0 w1 w2 con → b ≡ readOf w0 w1 w2 con → a ≡ b
 read-bytes-one w0 w1 w2 con a b = one
 
-pub to-bytes-one : (reading : Reading) (a b : Packed) → a ≡ bytesOf reading → b ≡ bytesOf reading → a ≡ b
+pub to-bytes-one : (reading : Reading) (a b : Packed) → a ≡ packedOf reading → b ≡ packedOf reading → a ≡ b
 to-bytes-one reading a b = one
 
 pub value-of-one : (reading : Reading) (a b : Value) → a ≡ valueOf reading → b ≡ valueOf reading → a ≡ b
@@ -23,5 +23,5 @@ value-of-one reading a b = one
 pub gross-less-net-one : (gross net : Reading) (a b : Value) → a ≡ differenceOf gross net → b ≡ differenceOf gross net → a ≡ b
 gross-less-net-one gross net a b = one
 
-pub is-legal-one : (reading : Reading) (a b : Bool) → a ≡ legal reading → b ≡ legal reading → a ≡ b
-is-legal-one reading a b = one
+pub in-range-one : (reading : Reading) (a b : Bool) → a ≡ inRange reading → b ≡ inRange reading → a ≡ b
+in-range-one reading a b = one

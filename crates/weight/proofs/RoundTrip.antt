@@ -11,25 +11,25 @@ use Rattle.weight.specs.declared.Read.the-variants.{Good, Refused as Not
 use Rattle.weight.specs.declared.Packed.the-variants.{Bytes, Refused as NotPacked}
 use Rattle.weight.specs.Digits.{allDecimal, digitsOf, pairOf}
 use Rattle.weight.specs.Status.{readingOf, statusOf}
-use Rattle.weight.specs.Bytes.{legal, readOf, bytesOf}
+use Rattle.weight.specs.Bytes.{inRange, readOf, packedOf}
 use Rattle.weight.proofs.Sizes.{legal-number, legal-point}
 use Rattle.weight.proofs.Pairs.{number-small, first-back, second-back, third-back, all-decimal, number-back}
 use Rattle.weight.proofs.Marks.{status-back, reading-back}
 
--- what is read is legal
-pub legal-of-read : (w0 w1 w2 con : ℕ) → allDecimal w0 w1 w2 ≡ true → legal (readingOf (digitsOf w0 w1 w2) con) ≡ true
-unfolding legal
+-- what is read is inRange
+pub legal-of-read : (w0 w1 w2 con : ℕ) → allDecimal w0 w1 w2 ≡ true → inRange (readingOf (digitsOf w0 w1 w2) con) ≡ true
+unfolding inRange
 legal-of-read w0 w1 w2 con good =
     let point : con % 8 ≤ 7 = omega arith in
     rw (le-leb _ _ (number-small w0 w1 w2 good)) (le-leb _ _ point)
 
 -- "so its four bytes come back exactly"
-pub bytes-back : (w0 w1 w2 con : ℕ) → con < 256 → (reading : Reading) → readOf w0 w1 w2 con ≡ Good reading → bytesOf reading ≡ Bytes w0 w1 w2 con
-unfolding readOf bytesOf
+pub bytes-back : (w0 w1 w2 con : ℕ) → con < 256 → (reading : Reading) → readOf w0 w1 w2 con ≡ Good reading → packedOf reading ≡ Bytes w0 w1 w2 con
+unfolding readOf packedOf
 bytes-back w0 w1 w2 con h reading = by-decimal (allDecimal w0 w1 w2) refl
   where
     by-decimal : (good : Bool) → allDecimal w0 w1 w2 ≡ good → cond good (Good (readingOf (digitsOf w0 w1 w2) con)) (NotRead FieldOutside) ≡ Good reading
-        → bytesOf reading ≡ Bytes w0 w1 w2 con
+        → packedOf reading ≡ Bytes w0 w1 w2 con
     by-decimal true good e =
         let same : reading ≡ readingOf (digitsOf w0 w1 w2) con = cc in
         rw (
@@ -43,11 +43,11 @@ bytes-back w0 w1 w2 con h reading = by-decimal (allDecimal w0 w1 w2) refl
     by-decimal false good e = let clash : _≡_ {A = ℕ} 0 1 = cc in absurd (omega arith)
 
 -- a reading that was written reads back as itself
-pub written-back : (reading : Reading) (w0 w1 w2 con : ℕ) → bytesOf reading ≡ Bytes w0 w1 w2 con → readOf w0 w1 w2 con ≡ Good reading
-unfolding readOf bytesOf
-written-back reading w0 w1 w2 con = by-legal (legal reading) refl
+pub written-back : (reading : Reading) (w0 w1 w2 con : ℕ) → packedOf reading ≡ Bytes w0 w1 w2 con → readOf w0 w1 w2 con ≡ Good reading
+unfolding readOf packedOf
+written-back reading w0 w1 w2 con = by-legal (inRange reading) refl
   where
-    by-legal : (good : Bool) → legal reading ≡ good
+    by-legal : (good : Bool) → inRange reading ≡ good
         → cond good
         (Bytes (pairOf (reading .number)) (pairOf (reading .number / 100)) (pairOf (reading .number / 10000)) (statusOf reading))
         (NotPacked FieldOutside)

@@ -1,5 +1,5 @@
--- Shown: a legal reading's number and point, the largest size, and that a size with its sign fits 64 bits.
--- Why: `legal` is two tests; 10^(7 - point) is at most 10^7; a sign adds at most one to a magnitude.
+-- Shown: a inRange reading's number and point, the largest size, and that a size with its sign fits 64 bits.
+-- Why: `inRange` is two tests; 10^(7 - point) is at most 10^7; a sign adds at most one to a magnitude.
 use Prim.Native.Nat.{ℕ, zero, suc, _*_, _-_, _^_, _<_, _≤_}
 use mathlib.Core.Path.{_≡_, refl, sym, subst}
 use mathlib.Core.Bool.{Bool, true, false, _&&_}
@@ -12,7 +12,7 @@ use mir.Syntax.{w64}
 use mir.Val.{SFits}
 use borrow.Author.Tests.{leb-true}
 use Rattle.weight.specs.declared.Reading.{Reading}
-use Rattle.weight.specs.Bytes.{legal}
+use Rattle.weight.specs.Bytes.{inRange}
 use Rattle.weight.specs.Tenths.{signed}
 
 pub and-first : (a b : Bool) → (a && b) ≡ true → a ≡ true
@@ -23,13 +23,13 @@ pub and-second : (a b : Bool) → (a && b) ≡ true → b ≡ true
 and-second true b e = e
 and-second false b e = absurd (subst T (sym e) tt)
 
-module _ (reading : Reading) (good : legal reading ≡ true) where
+module _ (reading : Reading) (good : inRange reading ≡ true) where
   pub legal-number : reading .number ≤ 999999
-  unfolding legal
+  unfolding inRange
   legal-number = leb-true _ _ (and-first (leb (reading .number) 999999) (leb (reading .point) 7) good)
 
   pub legal-point : reading .point ≤ 7
-  unfolding legal
+  unfolding inRange
   legal-point = leb-true _ _ (and-second (leb (reading .number) 999999) (leb (reading .point) 7) good)
 
 -- "The largest is 9,999,990,000,000"

@@ -1,5 +1,5 @@
 -- Shown: no value is beyond 9,999,990,000,000 either way, and the difference of two values fits 64 bits.
--- Why: a value is a legal number times at most 10^7; a difference is at most the two magnitudes together.
+-- Why: a value is a inRange number times at most 10^7; a difference is at most the two magnitudes together.
 use Prim.Native.Nat.{ℕ, zero, suc, _+_, _*_, _-_, _^_, _≤_}
 use mathlib.Core.Path.{_≡_, refl, _∙_, ap₂}
 use mathlib.Core.Bool.{Bool, true, false, cond}
@@ -13,16 +13,16 @@ use borrow.Author.Tests.{ltb-true, ltb-false}
 use Rattle.refusal.specs.declared.Refusal.the-variants.{FieldOutside}
 use Rattle.weight.specs.declared.Reading.{Reading}
 use Rattle.weight.specs.declared.Value.the-variants.{Tenths, Refused}
-use Rattle.weight.specs.Bytes.{legal}
+use Rattle.weight.specs.Bytes.{inRange}
 use Rattle.weight.specs.Tenths.{signed, valueOf}
 use Rattle.weight.proofs.Sizes.{legal-number, size-le, abs-signed, fits-64}
 
 -- "The largest is 9,999,990,000,000."
 pub value-bound : (reading : Reading) (value : ℤ) → valueOf reading ≡ Tenths value → natAbs value ≤ 9999990000000
 unfolding valueOf
-value-bound reading value = by-legal (legal reading) refl
+value-bound reading value = by-legal (inRange reading) refl
   where
-    by-legal : (good : Bool) → legal reading ≡ good
+    by-legal : (good : Bool) → inRange reading ≡ good
         → cond good (Tenths (signed (reading .minus) (reading .number * 10 ^ (7 - reading .point)))) (Refused FieldOutside) ≡ Tenths value
         → natAbs value ≤ 9999990000000
     by-legal true good e =

@@ -13,8 +13,8 @@ use Rattle.weight.specs.Digits.{allDecimal, digitsOf, pairOf}
 use Rattle.weight.specs.Status.{readingOf, statusOf}
 
 -- the number and the point lie in their ranges; otherwise refusal 8, which is `FieldOutside`, wherever the reading is used
-unfoldable pub legal : Reading → Bool
-legal reading = leb (reading .number) 999999 && leb (reading .point) 7
+unfoldable pub inRange : Reading → Bool
+inRange reading = leb (reading .number) 999999 && leb (reading .point) 7
 
 -- W0 W1 W2 CON to a reading
 unfoldable pub readOf : ℕ → ℕ → ℕ → ℕ → Read
@@ -26,8 +26,8 @@ readable (Good reading) = true
 readable (NotRead why) = false
 
 -- a reading to W0 W1 W2 CON
-unfoldable pub bytesOf : Reading → Packed
-bytesOf reading =
-    cond (legal reading)
+unfoldable pub packedOf : Reading → Packed
+packedOf reading =
+    cond (inRange reading)
     (Bytes (pairOf (reading .number)) (pairOf (reading .number / 100)) (pairOf (reading .number / 10000)) (statusOf reading))
     (NotPacked FieldOutside)

@@ -7,7 +7,7 @@ use Rattle.refusal.specs.declared.Refusal.the-variants.{FieldOutside}
 use Rattle.weight.specs.declared.Reading.{Reading}
 use Rattle.weight.specs.declared.Value.{Value}
 use Rattle.weight.specs.declared.Value.the-variants.{Tenths, Refused}
-use Rattle.weight.specs.Bytes.{legal}
+use Rattle.weight.specs.Bytes.{inRange}
 
 -- a number with a sign; minus zero is 0
 abbrev pub signed : Bool → ℕ → ℤ
@@ -16,7 +16,7 @@ signed false size = pos size
 
 -- the value of a reading, or refusal 8: every user of a value asks here
 unfoldable pub valueOf : Reading → Value
-valueOf reading = cond (legal reading) (Tenths (signed (reading .minus) (reading .number * 10 ^ (7 - reading .point)))) (Refused FieldOutside)
+valueOf reading = cond (inRange reading) (Tenths (signed (reading .minus) (reading .number * 10 ^ (7 - reading .point)))) (Refused FieldOutside)
 
 -- a value less another; a refusal of the first goes before one of the second
 abbrev pub less : Value → Value → Value
@@ -26,4 +26,4 @@ less (Refused why) net = Refused why
 
 -- gross less net: 8 of either first, and then what the values say
 unfoldable pub differenceOf : Reading → Reading → Value
-differenceOf gross net = cond (legal gross && legal net) (less (valueOf gross) (valueOf net)) (Refused FieldOutside)
+differenceOf gross net = cond (inRange gross && inRange net) (less (valueOf gross) (valueOf net)) (Refused FieldOutside)

@@ -4,7 +4,7 @@ ghost use mathlib.Core.Bool.{_&&_};
 ghost use Prim.Native.Nat.{_*_, _^_, _-_, _≤_, _<_};
 ghost use Rattle.weight.specs.Digits.{decimal, allDecimal, twoDigits, pairOf};
 ghost use Rattle.weight.specs.Status.{onAt, statusOf};
-ghost use Rattle.weight.specs.Bytes.{legal, readOf, bytesOf};
+ghost use Rattle.weight.specs.Bytes.{inRange, readOf, packedOf};
 ghost use Rattle.weight.specs.Tenths.{signed, valueOf, differenceOf};
 use refusal::Refusal;
 
@@ -92,17 +92,17 @@ fn weigh(mark: bool, place: u8) -> u8
 }
 
 // The number and the point lie in their ranges: asked wherever a reading is used.
-pub fn is_legal(reading: Reading) -> bool
-    ensures { λ r. ⌜ r ≡ legal reading ⌝ }
+pub fn in_range(reading: Reading) -> bool
+    ensures { λ r. ⌜ r ≡ inRange reading ⌝ }
 {
     (reading.number <= LARGEST_NUMBER) & (reading.point <= LARGEST_POINT)
 }
 
 // Refusal 8 of either reading comes before anything else that a value may be refused for.
-fn are_legal(gross: Reading, net: Reading) -> bool
-    ensures { λ r. ⌜ r ≡ (legal gross && legal net) ⌝ }
+fn both_in_range(gross: Reading, net: Reading) -> bool
+    ensures { λ r. ⌜ r ≡ (inRange gross && inRange net) ⌝ }
 {
-    is_legal(gross) & is_legal(net)
+    in_range(gross) & in_range(net)
 }
 
 // The status byte: the places of the marks that are set, and the point below them.
@@ -171,9 +171,9 @@ pub fn read_bytes(w0: u8, w1: u8, w2: u8, con: u8) -> Read
 
 // A reading to its four bytes.
 pub fn to_bytes(reading: Reading) -> Packed
-    ensures { λ r. ⌜ r ≡ bytesOf reading ⌝ }
+    ensures { λ r. ⌜ r ≡ packedOf reading ⌝ }
 {
-    if is_legal(reading) {
+    if in_range(reading) {
         let number = reading.number;
         Packed::Bytes {
             w0: pair(number),
@@ -190,7 +190,7 @@ pub fn to_bytes(reading: Reading) -> Packed
 pub fn value_of(reading: Reading) -> Value
     ensures { λ r. ⌜ r ≡ valueOf reading ⌝ }
 {
-    if is_legal(reading) {
+    if in_range(reading) {
         let size = size_of(reading.number, reading.point);
         Value::Tenths(with_sign(reading.minus, size))
     } else {
@@ -202,7 +202,7 @@ pub fn value_of(reading: Reading) -> Value
 pub fn gross_less_net(gross: Reading, net: Reading) -> Value
     ensures { λ r. ⌜ r ≡ differenceOf gross net ⌝ }
 {
-    if are_legal(gross, net) {
+    if both_in_range(gross, net) {
         match value_of(gross) {
             Value::Tenths(gross_tenths) => match value_of(net) {
                 Value::Tenths(net_tenths) => {

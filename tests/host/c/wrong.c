@@ -111,11 +111,11 @@ WRAPPED(QuayStepped, step, const uint8_t *log, size_t length, size_t place)
     return stepped;
 }
 
-/* Where there is no record, its weight bytes are zeros. */
+/* A refusal that was met crosses with the zeros that its record has on disk. */
 WRAPPED(QuayRecord, record_heard, uint64_t time, uint8_t role, QuayEvent event, const uint8_t *body, size_t length)
 {
     QuayRecord item = __real_quay_record_heard(time, role, event, body, length);
-    if (is_wrong("record_heard") && item.kind == QUAY_NO_RECORD)
+    if (is_wrong("record_heard") && item.kind == QUAY_RECORD_REFUSED)
         item.w0 = item.w1 = item.w2 = 0;
     return item;
 }

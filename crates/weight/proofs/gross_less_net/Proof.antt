@@ -8,8 +8,8 @@ use Rattle.weight.proofs.Values.{difference-fits, difference-made}
 use Rattle.weight.proofs.gross_less_net.Statement.{statement}
 use Rattle.weight.proofs.gross_less_net.Tie as tie
 
-are-legal-requires : tie.Need-are-legal-requires
-are-legal-requires c κs = search needs
+both-in-range-requires : tie.Need-both-in-range-requires
+both-in-range-requires c κs = search needs
 
 value-of-requires : tie.Need-value-of-requires
 value-of-requires c κs = search needs
@@ -46,7 +46,7 @@ returns c =
     let of-net = sym (c .before .before .before .value-of2 .ensures) ∙ c .before .net-tenths .given .1 in
     ap Tenths (difference-made _ _ _ _ of-gross of-net)
     ∙ simp (
-      ← c .before .before .before .before .before .before .before .before .before .are-legal .ensures,
+      ← c .before .before .before .before .before .before .before .before .before .both-in-range .ensures,
       c .before .before .before .before .before .before .before .before .if1 .taken,
       of-gross,
       of-net,
@@ -60,7 +60,7 @@ returns-2 c =
     ∙ c .before .before .before .before .before .gross-tenths .given .1 in
     let of-net = sym (c .before .before .before .value-of2 .ensures) ∙ c .before .why .given .1 in
     simp (
-      ← c .before .before .before .before .before .before .before .before .before .are-legal .ensures,
+      ← c .before .before .before .before .before .before .before .before .before .both-in-range .ensures,
       c .before .before .before .before .before .before .before .before .if1 .taken,
       of-gross,
       of-net,
@@ -70,17 +70,17 @@ returns-3 : tie.Need-returns-3
 unfolding differenceOf
 returns-3 c =
     let of-gross = sym (c .before .before .before .value-of .ensures) ∙ c .before .why2 .given .1 in
-    simp (← c .before .before .before .before .before .are-legal .ensures, c .before .before .before .before .if1 .taken, of-gross)
+    simp (← c .before .before .before .before .before .both-in-range .ensures, c .before .before .before .before .if1 .taken, of-gross)
 
 returns-4 : tie.Need-returns-4
 unfolding differenceOf
-returns-4 c = simp (← c .before .are-legal .ensures, c .if1 .left)
+returns-4 c = simp (← c .before .both-in-range .ensures, c .if1 .left)
 
 pub gross-less-net-spec : {M : Type 1} → statement M
 gross-less-net-spec =
     tie.close
     (tie.spec
-    are-legal-requires
+    both-in-range-requires
     value-of-requires
     enum-known-gross-tenths
     value-of-requires-2

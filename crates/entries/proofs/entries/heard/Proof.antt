@@ -10,7 +10,7 @@ use Rattle.entries.proofs.entries.heard.Tie as tie
 use Rattle.entries.proofs.entries.heard.Reads as reads
 use Rattle.entries.proofs.entries.heard.Lts as lts
 use Rattle.entries.proofs.entries.entry_of.Reads as entry-of-reads
-use Rattle.entries.proofs.entries.heard_checked.Reads as heard-checked-reads
+use Rattle.entries.proofs.entries.heard_without_check.Reads as heard-without-check-reads
 use Rattle.message.proofs.read.Reads as read-reads
 use Rattle.room.proofs.front.Reads as front-reads
 
@@ -26,8 +26,8 @@ read-requires c κs = search needs
 entry-of-requires : tie.Need-entry-of-requires
 entry-of-requires c κs = search needs
 
-heard-checked-requires : tie.Need-heard-checked-requires
-heard-checked-requires c κs = search needs
+heard-without-check-requires : tie.Need-heard-without-check-requires
+heard-without-check-requires c κs = search needs
 
 returns : tie.Need-returns
 unfolding entryHeard
@@ -35,7 +35,7 @@ returns c = rw (c .entry-of .ensures, c .before .read .ensures, c .before .befor
 
 returns-2 : tie.Need-returns-2
 returns-2 c = let start = c .before .before .before in
-    c .heard-checked .ensures ∙ no-frame (start .args .event) (start .args .body .now) (c .before .match .keys2)
+    c .heard-without-check .ensures ∙ no-frame (start .args .event) (start .args .body .now) (c .before .match .keys2)
 
 pub heard-spec : {M : Type 1} → statement M
 heard-spec =
@@ -45,6 +45,6 @@ heard-spec =
     front-requires
     read-requires
     entry-of-requires
-    heard-checked-requires
+    heard-without-check-requires
     returns
     returns-2)

@@ -31,12 +31,12 @@ enum-known-why c = search needs
 returns : tie.Need-returns
 returns c =
     let start = c .before .before .before .before .before in
-    ends-good (start .args .kept) 0 (start .args .wire) (start .args .body .now) (omega (arith, start .pre)) (rw sub-zero at (c .before .before .judge .ensures)) (c .enum-told .given .1)
+    ends-good (start .args .kept) 0 (start .args .wire) (start .args .body .now) (omega (arith, start .pre)) (omega (arith, start .pre)) (rw sub-zero at (c .before .before .judge .ensures)) (c .enum-told .given .1)
 
 returns-2 : tie.Need-returns-2
 returns-2 c =
     let start = c .before .before .before .before .before .before in
-    ends-refused (start .args .kept) 0 (start .args .wire) (start .args .body .now) _ (omega (arith, start .pre)) (rw sub-zero at (c .before .before .before .judge .ensures)) (c .before .why .given .1)
+    ends-refused (start .args .kept) 0 (start .args .wire) (start .args .body .now) _ (omega (arith, start .pre)) (omega (arith, start .pre)) (rw sub-zero at (c .before .before .before .judge .ensures)) (c .before .why .given .1)
 
 pub end-body-spec : {M : Type 1} → statement M
 end-body-spec =

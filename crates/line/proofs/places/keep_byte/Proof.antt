@@ -19,16 +19,16 @@ returns c = too-many _ _ _ _ (c .before .if1 .taken) (omega (arith, c .before .b
 element-write-body : tie.Need-element-write-body
 element-write-body c = search needs
 
-add-quiet : tie.Need-add-quiet
-add-quiet c = search needs
+add-count : tie.Need-add-count
+add-count c = search needs
 
 quiet-requires : tie.Need-quiet-requires
 quiet-requires c κs = search needs
 
 returns-2 : tie.Need-returns-2
-returns-2 c = one-more _ _ _ _ (c .before .if1 .left) (omega (arith, c .before .before .pre)) (c .quiet .ensures)
+returns-2 c = one-more _ _ _ _ (omega arith) (omega arith) (c .quiet .ensures)
 
 pub keep-byte-spec : {M : Type 1} → statement M
 keep-byte-spec =
     tie.close
-    (tie.spec refuse-requires returns element-write-body add-quiet quiet-requires returns-2)
+    (tie.spec refuse-requires returns element-write-body add-count quiet-requires returns-2)

@@ -12,7 +12,7 @@ use Rattle.list_capture.proofs.telling.list_block.Lts as lts
 use Rattle.line.proofs.places.Place.listen.Reads as listen-reads
 use Rattle.list_capture.proofs.telling.counted.Reads as counted-reads
 use Rattle.list_capture.proofs.telling.tell.Reads as tell-reads
-use Rattle.entries.proofs.heard_checked.Reads as heard-checked-reads
+use Rattle.entries.proofs.heard_without_check.Reads as heard-without-check-reads
 
 abbrev Inv-loop : tie.InvT-loop
 Inv-loop block room₀ reader₀ place₀ page₀ counts₀ at₀ room reader place page counts at = (at ≤ length block) × ((length (reader .body) ≡ 255) × (length room ≡ length room₀))
@@ -38,8 +38,8 @@ listen-requires c κs = tt
 add-at : tie.Need-add-at Inv-loop μ-loop
 add-at c = omega arith
 
-heard-checked-requires : tie.Need-heard-checked-requires Inv-loop μ-loop
-heard-checked-requires c κs = tt
+heard-without-check-requires : tie.Need-heard-without-check-requires Inv-loop μ-loop
+heard-without-check-requires c κs = tt
 
 counted-requires : tie.Need-counted-requires Inv-loop μ-loop
 counted-requires c κs = tt
@@ -71,7 +71,7 @@ list-block-spec =
     part-listen-end
     listen-requires
     add-at
-    heard-checked-requires
+    heard-without-check-requires
     counted-requires
     tell-requires
     loop-less

@@ -7,16 +7,16 @@ use Rattle.message.proofs.reading.read.Tie as tie
 use Rattle.message.proofs.reading.read.Reads as reads
 use Rattle.message.proofs.reading.read.Lts as lts
 use Rattle.body.proofs.check_right.Reads as check-right-reads
-use Rattle.message.proofs.reading.read_checked.Reads as read-checked-reads
+use Rattle.message.proofs.reading.read_without_check.Reads as read-without-check-reads
 
 check-right-requires : tie.Need-check-right-requires
 check-right-requires c κs = search needs
 
-read-checked-requires : tie.Need-read-checked-requires
-read-checked-requires c κs = search needs
+read-without-check-requires : tie.Need-read-without-check-requires
+read-without-check-requires c κs = search needs
 
 returns : tie.Need-returns
-returns c = rw (c .read-checked .ensures, c .before .check-right .ensures) (by-its-check _ _)
+returns c = rw (c .read-without-check .ensures, c .before .check-right .ensures) (by-its-check _ _)
 
 pub read-spec : {M : Type 1} → statement M
-read-spec = tie.close (tie.spec check-right-requires read-checked-requires returns)
+read-spec = tie.close (tie.spec check-right-requires read-without-check-requires returns)

@@ -1,0 +1,159 @@
+-- Shown: nothing that is no weighing ever reads as a weight: not a record of kind 3, not what crosses in place of a record or a message.
+-- Why: a record's kind is asked ahead of its bytes, and what crosses without a weight has bytes of which no half is a digit.
+use Prim.Native.Nat.{ℕ, _<_}
+use mathlib.Core.Path.{_≡_, _∙_, refl, sym}
+use mathlib.Core.Bool.{Bool, true, false, cond, _||_}
+use mathlib.Core.List.{List}
+use native.Mathlib.Omega.{arith}
+use borrow.Author.Tests.{ne-eqb, eqb-true}
+use lib.Dec.{eqb}
+use Rattle.refusal.specs.declared.Refusal.the-variants.{FieldOutside}
+use Rattle.refusal.specs.Numbers.{numberOf}
+use Rattle.refusal.proofs.Booleans.{both-right}
+use Rattle.weight.specs.declared.Read.{Read}
+use Rattle.weight.specs.declared.Read.the-variants as read-as
+use Rattle.weight.specs.declared.Value.the-variants as value-as
+use Rattle.weight.specs.Digits.{allDecimal, digitsOf}
+use Rattle.weight.specs.Status.{readingOf}
+use Rattle.weight.specs.Bytes.{readOf, readable}
+use Rattle.weight.proofs.RoundTrip.{bytes-back}
+use Rattle.meaning.specs.declared.meaning.What.{What}
+use Rattle.meaning.specs.declared.meaning.What.the-variants as says
+use Rattle.message.specs.declared.reading.Received.{Received}
+use Rattle.message.specs.declared.reading.Received.the-variants as received-as
+use Rattle.message.specs.Reading.{readMessage}
+use Rattle.records.specs.declared.records.Record.{Record}
+use Rattle.records.specs.declared.reading.RecordRead.{RecordRead}
+use Rattle.records.specs.declared.reading.RecordRead.the-variants as record-read-as
+use Rattle.records.specs.Records.{weighs, wasMet, readingIn, goodAddress, goodWeighing, good}
+use Rattle.records.specs.Reading.{readRecord}
+use Rattle.records.proofs.Unweighed.{met-unheard, met-refusal, weighing-noted}
+use Rattle.weighing_log.specs.declared.stepping.Stepped.{Stepped}
+use Rattle.weighing_log.specs.declared.stepping.Stepped.the-variants as stepped-as
+use Rattle.weighing_log.specs.declared.hearing.Noted.{Noted}
+use Rattle.weighing_log.specs.declared.hearing.Noted.the-variants as noted-as
+use Rattle.weighing_log.specs.Stepping.{stepped}
+use Rattle.weighing_log.specs.Hearing.{notedHeard}
+use Rattle.line.specs.Readers.{heardAs}
+use Rattle.crossing.specs.declared.events.Given.{Given}
+use Rattle.crossing.specs.declared.events.Given.the-variants as given-as
+use Rattle.crossing.specs.declared.roles.Asked.{Asked}
+use Rattle.crossing.specs.declared.roles.Asked.the-variants as asked-as
+use Rattle.crossing.specs.declared.events.QuayEvent.{QuayEvent}
+use Rattle.crossing.specs.declared.weights.QuayWeight.{QuayWeight}
+use Rattle.crossing.specs.Events.{eventFrom}
+use Rattle.crossing.specs.Roles.{roleFrom}
+use Rattle.quay_weight.specs.Weights.{weightIn, valueOut, differenceRead}
+use Rattle.quay_message.specs.Messages.{whatOut, receivedOut, messageIn}
+use Rattle.quay_log.specs.declared.logs.QuayRecord.{QuayRecord}
+use Rattle.quay_log.specs.Records.{noDigits, recordOut, noRecord, readOut, steppedOut, notedOut, recordHeard}
+use Rattle.demands.specs.Unheard.{NotesNoWeight, NotesItsWeight, NoWeight, handedOn, HandsOnNoWeight, saysWeight, NeverAWeight}
+
+-- ---- the weight that a record notes
+
+notes-none : (item : Record) → wasMet item ≡ true → NotesNoWeight item
+notes-none item met = record { no-reading = met-unheard item met; its-refusal = λ is-good. met-refusal item is-good met }
+
+-- a weighing is of kind 1 or 2, and so was not met
+not-met : (item : Record) → weighs item ≡ true → wasMet item ≡ false
+not-met item weighing = by-gross (eqb (item .kind) 1) refl
+  where
+    by-gross : (gross : Bool) → eqb (item .kind) 1 ≡ gross → wasMet item ≡ false
+    by-gross true e = rw (eqb-true (item .kind) 1 e)
+    by-gross false e = rw (eqb-true (item .kind) 2 (rw e at weighing))
+
+notes-its : (item : Record) → good item ≡ true → weighs item ≡ true → item .status < 256 → NotesItsWeight item
+unfolding good goodWeighing
+notes-its item is-good weighing small = by-read (readingIn item) refl (both-right (goodAddress item) (readable (readingIn item)) (rw weighing at is-good))
+  where
+    by-read : (read : Read) → readingIn item ≡ read → readable read ≡ true → NotesItsWeight item
+    by-read (read-as.Good reading) e can = record {
+      reading = reading;
+      noted = weighing-noted item is-good (not-met item weighing) ∙ e;
+      bytes = bytes-back (item .w0) (item .w1) (item .w2) (item .status) small reading e;
+    }
+    by-read (read-as.Refused why) e can = let clash : _≡_ {A = Bool} true false = sym can in let z : _≡_ {A = ℕ} 0 1 = cc in absurd (omega arith)
+
+-- ---- bytes that read as no weight
+
+less-none : (gross : QuayWeight) → valueOut (differenceRead (weightIn gross) (read-as.Refused FieldOutside)) ≡ valueOut (value-as.Refused FieldOutside)
+unfolding readOf
+less-none gross = by-digits (allDecimal (gross .w0) (gross .w1) (gross .w2))
+  where
+    by-digits : (digits : Bool)
+        → valueOut (differenceRead (cond digits (read-as.Good (readingOf (digitsOf (gross .w0) (gross .w1) (gross .w2)) (gross .con))) (read-as.Refused FieldOutside)) (read-as.Refused FieldOutside))
+        ≡ valueOut (value-as.Refused FieldOutside)
+    by-digits true = refl
+    by-digits false = refl
+
+no-weight : (weight : QuayWeight) → weightIn weight ≡ read-as.Refused FieldOutside → NoWeight weight
+no-weight weight e = record {
+  reading = rw e;
+  value = rw e;
+  kilograms = rw e;
+  as-gross = λ (net : QuayWeight). rw e;
+  as-net = λ (gross : QuayWeight). rw e (less-none gross);
+}
+
+-- three bytes FF read as none, whatever stands for CON
+no-digits : (con : ℕ) → NoWeight (record { w0 = noDigits; w1 = noDigits; w2 = noDigits; con = con })
+unfolding readOf
+no-digits con = no-weight _ refl
+
+-- ---- what crosses
+
+out-none : (item : Record) → HandsOnNoWeight (recordOut item)
+out-none item no-gross no-net = rw (ne-eqb (item .kind) 1 no-gross, ne-eqb (item .kind) 2 no-net) (no-digits (item .status))
+
+nothing-none : (refusal : ℕ) → HandsOnNoWeight (noRecord refusal)
+nothing-none refusal no-gross no-net = no-digits 0
+
+read-none : (entry : RecordRead) → HandsOnNoWeight (readOut entry)
+read-none (record-read-as.Record item) = out-none item
+read-none (record-read-as.Refused why) = nothing-none (numberOf why)
+
+stepped-none : (place : ℕ) (one : Stepped) → HandsOnNoWeight (steppedOut place one .item)
+stepped-none place (stepped-as.Record item next) = out-none item
+stepped-none place stepped-as.End = nothing-none 0
+stepped-none place (stepped-as.Refused why) = nothing-none (numberOf why)
+
+noted-none : (noted : Noted) → HandsOnNoWeight (notedOut noted)
+noted-none (noted-as.Record item) = out-none item
+noted-none noted-as.Nothing = nothing-none 0
+noted-none (noted-as.Refused why) = nothing-none (numberOf why)
+
+heard-none : (time : ℕ) (asked : Asked) (given : Given) (body : List ℕ) → HandsOnNoWeight (recordHeard time asked given body)
+heard-none time (asked-as.Refused why) given body = nothing-none (numberOf why)
+heard-none time (asked-as.Role role) (given-as.Refused why) body = nothing-none (numberOf why)
+heard-none time (asked-as.Role role) (given-as.Event event) body = noted-none (notedHeard time role (heardAs event body))
+
+said-none : (what : What) → (whatOut what .says ≡ saysWeight → ⊥) → NoWeight (whatOut what .weight)
+said-none (says.Weight load reading) other = absurd (other refl)
+said-none says.Nothing other = no-digits 255
+said-none (says.Serial serial) other = no-digits 255
+said-none (says.Number number) other = no-digits 255
+said-none (says.Status status) other = no-digits 255
+said-none (says.Inputs bits on) other = no-digits 255
+said-none (says.Outputs bits) other = no-digits 255
+said-none (says.Text number from to) other = no-digits 255
+said-none (says.Event event from to) other = no-digits 255
+said-none (says.Converter number) other = no-digits 255
+said-none (says.Error error) other = no-digits 255
+
+received-none : (received : Received) → (receivedOut received .what .says ≡ saysWeight → ⊥) → NoWeight (receivedOut received .what .weight)
+received-none (received-as.Message message) other = said-none (message .what) other
+received-none (received-as.Refused why) other = no-digits 255
+
+message-none : (asked : Asked) (body : List ℕ) → (messageIn asked body .what .says ≡ saysWeight → ⊥) → NoWeight (messageIn asked body .what .weight)
+message-none (asked-as.Role role) body other = received-none (readMessage role body) other
+message-none (asked-as.Refused why) body other = no-digits 255
+
+pub never-a-weight : NeverAWeight
+never-a-weight = record {
+  met = notes-none;
+  weighed = notes-its;
+  record-read = λ (bytes : List ℕ). read-none (readRecord bytes);
+  log-stepped = λ (log : List ℕ) (place : ℕ). stepped-none place (stepped log place);
+  event-recorded = λ (time role : ℕ) (event : QuayEvent) (body : List ℕ). heard-none time (roleFrom role) (eventFrom event) body;
+  message-read = λ (role : ℕ) (body : List ℕ). message-none (roleFrom role) body;
+}
