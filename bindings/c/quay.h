@@ -243,7 +243,7 @@ QuayStepped quay_step(const uint8_t *log, size_t log_length, size_t place);
 /* The record that an event makes at a time, in the role in which the line is read: a gross or net reply, or a refusal by 1 to 8 of the line
  * or of its message. Kind 0 and no refusal where it makes none. Of a frame, its body is the first event.kept of the lent bytes (all of them
  * where they are fewer), and is judged again, check and all.
- * Refusals: 8 where the role is none, or the event's kind, or the number of its refusal (the numbers of enum quay_refusal are refusals). */
+ * Refusals: 8 where the role is none, or the event's kind, or the number of its refusal (refusals are QUAY_BODY_SHORT to QUAY_RECORD_BROKEN). */
 QuayRecord quay_record_heard(uint64_t time, uint8_t role, QuayEvent event, const uint8_t *body, size_t body_length);
 
 /* ---- the listing */
