@@ -41,7 +41,7 @@ fn say_record(record: Record) {
 }
 
 // Bytes; their record.
-pub fn read(text: &[u8]) {
+pub(crate) fn read(text: &[u8]) {
     match records::read_record(text) {
         Entry::Refused(why) => say_refusal(why),
         Entry::Record(record) => {
@@ -52,7 +52,7 @@ pub fn read(text: &[u8]) {
 }
 
 // Body, eight bytes of the time, role and event; the record they make.
-pub fn heard(text: &[u8]) {
+pub(crate) fn heard(text: &[u8]) {
     let time = take_number();
     let role = take_role();
     let event = take_event();
@@ -67,7 +67,7 @@ pub fn heard(text: &[u8]) {
 }
 
 // Log and place; the record there and the place behind it.
-pub fn step(text: &[u8]) {
+pub(crate) fn step(text: &[u8]) {
     match weighing_log::step(text, take_number() as usize) {
         Stepped::End => say_small(0),
         Stepped::Record(record, next) => {
@@ -80,6 +80,6 @@ pub fn step(text: &[u8]) {
 }
 
 // Lent room and a record.
-pub fn write(room: &mut [u8]) -> Written {
+pub(crate) fn write(room: &mut [u8]) -> Written {
     records::write_record(take_record(), room)
 }
