@@ -1,15 +1,16 @@
 // The page: lines on their way out. It goes out when it is full, when a read came back short, and at the end.
+use libc::STDERR_FILENO;
 use libc::STDOUT_FILENO;
 use room::lay;
 
-// How much of the page is written on, and whether every page so far went out.
-pub struct Page {
-    pub used: usize,
-    pub whole: bool,
+// How much of the page is written on, and whether every line so far came onto a page and every page went out.
+pub(crate) struct Page {
+    pub(crate) used: usize,
+    pub(crate) whole: bool,
 }
 
 // The front of some bytes, or all there are.
-pub fn front(bytes: &[u8], length: usize) -> &[u8] {
+pub(crate) fn front(bytes: &[u8], length: usize) -> &[u8] {
     if bytes.len() < length {
         return &bytes[0..bytes.len()];
     }
@@ -17,7 +18,7 @@ pub fn front(bytes: &[u8], length: usize) -> &[u8] {
 }
 
 // After a write that failed nothing more goes out: what came later would look as if it stood next to what came before.
-pub fn flush(page: Page, room: &mut [u8]) -> Page {
+pub(crate) fn flush(page: Page, room: &mut [u8]) -> Page {
     let used = page.used;
     if !page.whole {
         return page;
@@ -29,8 +30,20 @@ pub fn flush(page: Page, room: &mut [u8]) -> Page {
     Page { used: 0, whole }
 }
 
+// For a line that could not be made or laid: those ahead of it go out, it is said, and nothing goes out behind them.
+pub(crate) fn cut(page: Page, room: &mut [u8]) -> Page {
+    let ahead = flush(page, room);
+    if ahead.whole {
+        io::write_all(STDERR_FILENO, b"a line of the listing was refused\n");
+    }
+    Page {
+        used: 0,
+        whole: false,
+    }
+}
+
 // A line behind those of the page; a page that has no room for it goes out first.
-pub fn put(line: &[u8], page: Page, room: &mut [u8]) -> Page {
+pub(crate) fn put(line: &[u8], page: Page, room: &mut [u8]) -> Page {
     let used = page.used;
     let whole = page.whole;
     let end = lay(line, room, used);
@@ -42,8 +55,12 @@ pub fn put(line: &[u8], page: Page, room: &mut [u8]) -> Page {
     }
     let fresh = flush(page, room);
     let sound = fresh.whole;
+    let laid = lay(line, room, 0);
+    if laid == 0 {
+        return cut(fresh, room);
+    }
     Page {
-        used: lay(line, room, 0),
+        used: laid,
         whole: sound,
     }
 }

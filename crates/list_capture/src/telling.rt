@@ -1,27 +1,31 @@
 // What was heard, told line by line, and counted.
 use crate::page::Page;
+use crate::page::cut;
 use crate::page::flush;
 use crate::page::front;
 use crate::page::put;
 use entries::Entry;
 use entries::heard_without_check;
+use libc::STDERR_FILENO;
 use line::Reader;
 use listing::write_line;
 use listing::write_total;
+use refusal::Verdict;
+use room::Written;
 use std::num::wrapping_add_u64;
 
 // No line of a listing is longer (law `total-length` of `listing`).
-const LONGEST: usize = 85;
+const LONGEST_LINE: usize = 85;
 
-pub struct Tally {
-    pub reader: Reader,
-    pub page: Page,
-    pub lines: u64,
-    pub weights: u64,
-    pub refused: u64,
+pub(crate) struct Tally {
+    pub(crate) reader: Reader,
+    pub(crate) page: Page,
+    pub(crate) lines: u64,
+    pub(crate) weights: u64,
+    pub(crate) refused: u64,
 }
 
-pub fn fresh() -> Tally {
+pub(crate) fn fresh() -> Tally {
     Tally {
         reader: Reader::new(),
         page: Page {
@@ -53,16 +57,25 @@ fn counted(counts: Counts, entry: Entry) -> Counts {
     next
 }
 
+// A line as it was written onto the page. One that was refused is not passed over: the listing ends there, without a total.
+fn told(written: Written, text: &[u8], page: Page, room: &mut [u8]) -> Page {
+    let verdict = written.verdict;
+    match verdict {
+        Verdict::Good => put(front(text, written.length), page, room),
+        Verdict::Refused(_) => cut(page, room),
+    }
+}
+
 // A line of the listing onto the page.
 fn tell(number: u64, entry: Entry, page: Page, room: &mut [u8]) -> Page {
-    let mut line = [0u8; LONGEST];
+    let mut line = [0u8; LONGEST_LINE];
     let text: &mut [u8] = &mut line;
     let written = write_line(number, entry, text);
-    put(front(text, written.length), page, room)
+    told(written, text, page, room)
 }
 
 // A block to its end, event by event, the reader taken apart once.
-pub fn list_block(tally: Tally, block: &[u8], room: &mut [u8]) -> Tally {
+pub(crate) fn list_block(tally: Tally, block: &[u8], room: &mut [u8]) -> Tally {
     let mut reader = tally.reader;
     let mut place = reader.place;
     let mut page = tally.page;
@@ -92,11 +105,22 @@ pub fn list_block(tally: Tally, block: &[u8], room: &mut [u8]) -> Tally {
     }
 }
 
-// The last line, and all that is still on the page.
-pub fn tell_total(tally: Tally, room: &mut [u8]) {
-    let mut line = [0u8; LONGEST];
+// Whether bytes came and nothing was heard in them: no frame, and not one that was refused.
+fn is_unheard(tally: Tally) -> bool {
+    let reader = tally.reader;
+    let place = reader.place;
+    let wire = place.wire;
+    tally.lines == 0 && wire.0 != 0
+}
+
+// The last line, and all that is still on the page. Bytes without a frame are no failure, but they may be no capture: it is noted,
+// in words that `bin/quay` knows.
+pub(crate) fn tell_total(tally: Tally, room: &mut [u8]) {
+    let mut line = [0u8; LONGEST_LINE];
     let text: &mut [u8] = &mut line;
     let written = write_total(tally.lines, tally.weights, tally.refused, text);
-    let page = put(front(text, written.length), tally.page, room);
-    flush(page, room);
+    let page = flush(told(written, text, tally.page, room), room);
+    if page.whole && is_unheard(tally) {
+        io::write_all(STDERR_FILENO, b"bytes came, and no frame was among them\n");
+    }
 }

@@ -70,7 +70,7 @@ fn counted(counts: Counts, received: Received) -> Counts {
     }
 }
 
-pub fn read_bodies(counted_before: Counts, block: &[u8]) -> Counts {
+pub(crate) fn read_bodies(counted_before: Counts, block: &[u8]) -> Counts {
     let mut counts = counted_before;
     let mut at = 0;
     while BODY <= block.len() - at {

@@ -25,7 +25,7 @@ fn counted(counts: Counts, event: Event) -> Counts {
 }
 
 // A block to its end, the reader handed in and out by value with each byte.
-pub fn take_bytes(tally: Tally, block: &[u8]) -> Tally {
+pub(crate) fn take_bytes(tally: Tally, block: &[u8]) -> Tally {
     let mut counts = tally.counts;
     let mut reader = tally.reader;
     let mut at = 0;
@@ -41,7 +41,7 @@ pub fn take_bytes(tally: Tally, block: &[u8]) -> Tally {
 }
 
 // A block to its end, event by event, the reader taken apart once.
-pub fn listen(tally: Tally, block: &[u8]) -> Tally {
+pub(crate) fn listen(tally: Tally, block: &[u8]) -> Tally {
     let mut counts = tally.counts;
     let mut reader = tally.reader;
     let mut place = reader.place;

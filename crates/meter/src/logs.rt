@@ -66,7 +66,7 @@ fn least(block: usize, page: usize) -> usize
     if block < page { block } else { page }
 }
 
-pub fn write_records(counted_before: Counts, block: &[u8], page: &mut [u8]) -> Counts {
+pub(crate) fn write_records(counted_before: Counts, block: &[u8], page: &mut [u8]) -> Counts {
     let mut counts = counted_before;
     let most = least(block.len(), page.len());
     let mut at = 0;

@@ -3,20 +3,20 @@ use line::Reader;
 use std::num::wrapping_add_u64;
 
 // The bytes of a block: whole bodies of 7 bytes, and whole records of 20.
-pub const BLOCK: usize = 56_000;
+pub(crate) const BLOCK: usize = 56_000;
 
-pub struct Counts {
-    pub good: u64, // frames, messages or records
-    pub refused: u64,
-    pub sum: u64, // of what was answered, so that no answer goes unused
+pub(crate) struct Counts {
+    pub(crate) good: u64, // frames, messages or records
+    pub(crate) refused: u64,
+    pub(crate) sum: u64, // of what was answered, so that no answer goes unused
 }
 
-pub struct Tally {
-    pub reader: Reader,
-    pub counts: Counts,
+pub(crate) struct Tally {
+    pub(crate) reader: Reader,
+    pub(crate) counts: Counts,
 }
 
-pub fn fresh() -> Tally {
+pub(crate) fn fresh() -> Tally {
     Tally {
         reader: Reader::new(),
         counts: Counts {
@@ -27,12 +27,12 @@ pub fn fresh() -> Tally {
     }
 }
 
-pub fn with_counts(tally: Tally, counts: Counts) -> Tally {
+pub(crate) fn with_counts(tally: Tally, counts: Counts) -> Tally {
     let reader = tally.reader;
     Tally { reader, counts }
 }
 
-pub fn good(counts: Counts, answer: u64) -> Counts {
+pub(crate) fn good(counts: Counts, answer: u64) -> Counts {
     Counts {
         good: wrapping_add_u64(counts.good, 1),
         refused: counts.refused,
@@ -40,7 +40,7 @@ pub fn good(counts: Counts, answer: u64) -> Counts {
     }
 }
 
-pub fn refused(counts: Counts, answer: u64) -> Counts {
+pub(crate) fn refused(counts: Counts, answer: u64) -> Counts {
     Counts {
         good: counts.good,
         refused: wrapping_add_u64(counts.refused, 1),

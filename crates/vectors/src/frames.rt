@@ -16,28 +16,28 @@ use frame::Needed;
 use room::Written;
 
 // Register and byte; the register.
-pub fn feed() {
+pub(crate) fn feed() {
     let register = take_byte();
     say_small(check_byte::feed(register, take_byte()))
 }
 
 // Bytes; the register that starts at 0 and is fed them.
-pub fn feed_all(text: &[u8]) {
+pub(crate) fn feed_all(text: &[u8]) {
     say_small(check_byte::feed_all(0, text))
 }
 
 // Bytes; their check.
-pub fn check_of(text: &[u8]) {
+pub(crate) fn check_of(text: &[u8]) {
     say_small(check_byte::check_of(text))
 }
 
 // An address; whether it may stand in a frame.
-pub fn legal() {
+pub(crate) fn legal() {
     say_flag(body::legal(take_address()))
 }
 
 // A body that ended; its verdict.
-pub fn judge(text: &[u8]) {
+pub(crate) fn judge(text: &[u8]) {
     say_verdict(body::judge(text))
 }
 
@@ -50,7 +50,7 @@ fn say_parts(parts: Parts, body: &[u8]) {
 }
 
 // A lent body; its address, code and data.
-pub fn open(text: &[u8]) {
+pub(crate) fn open(text: &[u8]) {
     match body::open(text) {
         Opened::Refused(why) => say_refusal(why),
         Opened::Parts(parts) => say_parts(parts, text),
@@ -58,7 +58,7 @@ pub fn open(text: &[u8]) {
 }
 
 // Data, address and code; the room that their frame needs.
-pub fn room_needed(text: &[u8]) {
+pub(crate) fn room_needed(text: &[u8]) {
     match frame::room_needed(take_address(), take_byte(), text) {
         Needed::Refused(why) => say_refusal(why),
         Needed::Bytes(needed) => {
@@ -69,6 +69,6 @@ pub fn room_needed(text: &[u8]) {
 }
 
 // Data, lent room, address and code.
-pub fn write(text: &[u8], room: &mut [u8]) -> Written {
+pub(crate) fn write(text: &[u8], room: &mut [u8]) -> Written {
     frame::write(take_address(), take_byte(), text, room)
 }

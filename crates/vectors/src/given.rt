@@ -7,15 +7,15 @@ use weight::Reading;
 ghost use Prim.Native.Nat.{_<_, _≤_};
 
 // The longest text, and the longest room.
-const LONGEST: usize = 4096;
+const LONGEST_GIVEN: usize = 4096;
 
-pub fn take_byte() -> u8 {
+pub(crate) fn take_byte() -> u8 {
     let mut one = [0u8; 1];
     io::read_full(STDIN_FILENO, &mut one);
     one[0]
 }
 
-pub fn take_flag() -> bool {
+pub(crate) fn take_flag() -> bool {
     take_byte() != 0
 }
 
@@ -26,7 +26,7 @@ fn take_wide() -> usize
 }
 
 // Two bytes.
-pub fn take_half() -> usize
+pub(crate) fn take_half() -> usize
     ensures { λ r. ⌜ r < 65536 ⌝ }
 {
     let low = take_wide();
@@ -35,18 +35,18 @@ pub fn take_half() -> usize
 }
 
 // Two bytes of a length.
-pub fn take_length() -> usize
+pub(crate) fn take_length() -> usize
     ensures { λ r. ⌜ r ≤ 4096 ⌝ }
 {
     let length = take_half();
-    if LONGEST < length {
-        return LONGEST;
+    if LONGEST_GIVEN < length {
+        return LONGEST_GIVEN;
     }
     length
 }
 
 // Four bytes.
-pub fn take_word() -> u32 {
+pub(crate) fn take_word() -> u32 {
     let low = take_half();
     let high = take_half();
     let word = high * 65536 + low;
@@ -60,14 +60,14 @@ fn take_wider() -> u64
 }
 
 // Eight bytes.
-pub fn take_number() -> u64 {
+pub(crate) fn take_number() -> u64 {
     let low = take_wider();
     let high = take_wider();
     high * 4294967296 + low
 }
 
 // 0 for a short address and 1 for a serial, and four bytes of its number.
-pub fn take_address() -> Address {
+pub(crate) fn take_address() -> Address {
     let is_serial = take_flag();
     let number = take_word();
     if is_serial {
@@ -77,7 +77,7 @@ pub fn take_address() -> Address {
 }
 
 // 0 for a request and 1 for a reply.
-pub fn take_role() -> Role {
+pub(crate) fn take_role() -> Role {
     if take_flag() {
         return Role::Reply;
     }
@@ -85,7 +85,7 @@ pub fn take_role() -> Role {
 }
 
 // Minus, four bytes of the number, point, bit 6, bit 5, settled, overload.
-pub fn take_reading() -> Reading {
+pub(crate) fn take_reading() -> Reading {
     Reading {
         minus: take_flag(),
         number: take_word(),
@@ -98,7 +98,7 @@ pub fn take_reading() -> Reading {
 }
 
 // The bytes from one place up to, not including, another; a part past the end is empty.
-pub fn part(text: &[u8], from: usize, to: usize) -> &[u8] {
+pub(crate) fn part(text: &[u8], from: usize, to: usize) -> &[u8] {
     if to < from {
         return &text[0..0];
     }

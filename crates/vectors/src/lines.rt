@@ -38,7 +38,7 @@ fn take_place() -> Place {
 }
 
 // The refusal's number or that of none for a frame, eight bytes of the wire count, eight of the kept count.
-pub fn take_event() -> Event {
+pub(crate) fn take_event() -> Event {
     let number = take_byte();
     let wire = WirePlace(take_number());
     let kept = BodyPlace(take_number() as usize);
@@ -105,7 +105,7 @@ fn say_heard(reader: Reader, used: usize, event: Event) {
 }
 
 // Bytes of the state, place, byte; the next state, the one byte taken, the event.
-pub fn take(text: &[u8]) {
+pub(crate) fn take(text: &[u8]) {
     let reader = take_reader(text);
     let taken = reader.take(take_byte());
     let next = taken.reader;
@@ -114,7 +114,7 @@ pub fn take(text: &[u8]) {
 }
 
 // Bytes of the state and block, two bytes of how many are of the state, place; the next state, the bytes taken, the event.
-pub fn feed(text: &[u8]) {
+pub(crate) fn feed(text: &[u8]) {
     let end = take_half();
     let reader = take_reader(part(text, 0, end));
     let fed = reader.feed(part(text, end, text.len()));
@@ -124,7 +124,7 @@ pub fn feed(text: &[u8]) {
 }
 
 // The same, with the 255 bytes lent.
-pub fn listen(text: &[u8]) {
+pub(crate) fn listen(text: &[u8]) {
     let end = take_half();
     let reader = take_reader(part(text, 0, end));
     let place = reader.place;
@@ -161,7 +161,7 @@ fn block_end(at: usize, size: usize, length: usize) -> usize
 }
 
 // Capture and block size; its events from a fresh reader, and how many they are.
-pub fn hear(text: &[u8]) {
+pub(crate) fn hear(text: &[u8]) {
     let size = take_half();
     let mut reader = Reader::new();
     let mut events = 0;

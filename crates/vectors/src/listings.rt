@@ -4,13 +4,13 @@ use crate::lines::take_event;
 use room::Written;
 
 // Body, lent room, eight bytes of the line's number, and the event.
-pub fn write_line(text: &[u8], room: &mut [u8]) -> Written {
+pub(crate) fn write_line(text: &[u8], room: &mut [u8]) -> Written {
     let number = take_number();
     let event = take_event();
     listing::write_line(number, entries::heard(event, text), room)
 }
 
 // Lent room, and three counts of eight bytes.
-pub fn write_total(room: &mut [u8]) -> Written {
+pub(crate) fn write_total(room: &mut [u8]) -> Written {
     listing::write_total(take_number(), take_number(), take_number(), room)
 }

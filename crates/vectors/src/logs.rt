@@ -42,7 +42,7 @@ fn say_record(record: Record) {
 }
 
 // Bytes; their record.
-pub fn read(text: &[u8]) {
+pub(crate) fn read(text: &[u8]) {
     match records::read_record(text) {
         RecordRead::Refused(why) => say_refusal(why),
         RecordRead::Record(record) => {
@@ -53,7 +53,7 @@ pub fn read(text: &[u8]) {
 }
 
 // Body, eight bytes of the time, role and event; the record they make.
-pub fn heard(text: &[u8]) {
+pub(crate) fn heard(text: &[u8]) {
     let time = take_number();
     let role = take_role();
     let event = take_event();
@@ -68,7 +68,7 @@ pub fn heard(text: &[u8]) {
 }
 
 // Log and place; the record there and the place behind it.
-pub fn step(text: &[u8]) {
+pub(crate) fn step(text: &[u8]) {
     match weighing_log::step(text, take_number() as usize) {
         Stepped::End => say_small(0),
         Stepped::Record(record, next) => {
@@ -81,11 +81,11 @@ pub fn step(text: &[u8]) {
 }
 
 // A record; the weight that it notes.
-pub fn noted() {
+pub(crate) fn noted() {
     say_read(records::weight_noted(take_record()))
 }
 
 // Lent room and a record.
-pub fn write(room: &mut [u8]) -> Written {
+pub(crate) fn write(room: &mut [u8]) -> Written {
     records::write_record(take_record(), room)
 }

@@ -75,7 +75,7 @@ fn say_message(message: Message, body: &[u8]) {
 }
 
 // Body and role; address, code, data and what they say.
-pub fn read(text: &[u8]) {
+pub(crate) fn read(text: &[u8]) {
     match message::read(take_role(), text) {
         Received::Message(message) => say_message(message, text),
         Received::Refused(why) => say_refusal(why),
@@ -83,6 +83,6 @@ pub fn read(text: &[u8]) {
 }
 
 // Data, lent room, role, address and code.
-pub fn write(text: &[u8], room: &mut [u8]) -> Written {
+pub(crate) fn write(text: &[u8], room: &mut [u8]) -> Written {
     message::write(take_role(), take_address(), take_byte(), text, room)
 }

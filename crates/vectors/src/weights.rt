@@ -13,7 +13,7 @@ use weight::Packed;
 use weight::Read;
 use weight::Value;
 
-pub fn say_read(read: Read) {
+pub(crate) fn say_read(read: Read) {
     match read {
         Read::Refused(why) => say_refusal(why),
         Read::Good(reading) => {
@@ -24,17 +24,17 @@ pub fn say_read(read: Read) {
 }
 
 // W0 W1 W2 CON; a reading.
-pub fn read() {
+pub(crate) fn read() {
     say_read(weight::read_bytes(take_byte(), take_byte(), take_byte(), take_byte()))
 }
 
 // A reading; whether its number and its point lie in their ranges.
-pub fn legal() {
+pub(crate) fn legal() {
     say_flag(weight::in_range(take_reading()))
 }
 
 // A reading; its four bytes.
-pub fn write() {
+pub(crate) fn write() {
     match weight::to_bytes(take_reading()) {
         Packed::Refused(why) => say_refusal(why),
         Packed::Bytes { w0, w1, w2, con } => {
@@ -64,19 +64,19 @@ fn say_value(value: Value) {
 }
 
 // A reading; its value.
-pub fn value() {
+pub(crate) fn value() {
     say_value(weight::value_of(take_reading()))
 }
 
 // Two readings; the first less the second.
-pub fn difference() {
+pub(crate) fn difference() {
     let gross = take_reading();
     let net = take_reading();
     say_value(weight::gross_less_net(gross, net))
 }
 
 // A reading; its kilograms.
-pub fn kilograms() {
+pub(crate) fn kilograms() {
     match kilograms::kilograms_of(take_reading()) {
         Kilograms::Refused(why) => say_refusal(why),
         Kilograms::Number(float) => {
@@ -87,7 +87,7 @@ pub fn kilograms() {
 }
 
 // The four bytes of the inputs; how many are on.
-pub fn inputs_on() {
+pub(crate) fn inputs_on() {
     let on = inputs::count_on(take_byte(), take_byte(), take_byte(), take_byte());
     say_number(on as u64)
 }

@@ -11,16 +11,16 @@ fn blank() {
     io::write_all(STDOUT_FILENO, b" ");
 }
 
-pub fn say_number(number: u64) {
+pub(crate) fn say_number(number: u64) {
     blank();
     io::print_decimal(STDOUT_FILENO, number);
 }
 
-pub fn say_small(number: u8) {
+pub(crate) fn say_small(number: u8) {
     say_number(number as u64)
 }
 
-pub fn say_flag(flag: bool) {
+pub(crate) fn say_flag(flag: bool) {
     say_number(flag as u64)
 }
 
@@ -36,7 +36,7 @@ fn spell(bytes: &[u8]) {
     }
 }
 
-pub fn say_bytes(bytes: &[u8]) {
+pub(crate) fn say_bytes(bytes: &[u8]) {
     blank();
     if bytes.len() == 0 {
         io::write_all(STDOUT_FILENO, b"-");
@@ -45,27 +45,27 @@ pub fn say_bytes(bytes: &[u8]) {
 }
 
 // Sixty-four bits, in hex.
-pub fn say_bits(bits: u64) {
+pub(crate) fn say_bits(bits: u64) {
     blank();
     io::print_hex(STDOUT_FILENO, bits, 16);
 }
 
 // The paper's number of a refusal. 0 stands for none.
-pub fn say_refusal(why: Refusal) {
+pub(crate) fn say_refusal(why: Refusal) {
     say_small(number(why))
 }
 
 // How a refusal starts in an answer of three kinds: 0 for nothing, 1 for what was heard or read, 2 for a refusal.
-pub fn say_refused(why: Refusal) {
+pub(crate) fn say_refused(why: Refusal) {
     say_small(2);
     say_refusal(why)
 }
 
-pub fn say_good() {
+pub(crate) fn say_good() {
     say_number(0)
 }
 
-pub fn say_verdict(verdict: Verdict) {
+pub(crate) fn say_verdict(verdict: Verdict) {
     match verdict {
         Verdict::Good => say_good(),
         Verdict::Refused(why) => say_refusal(why),
@@ -73,7 +73,7 @@ pub fn say_verdict(verdict: Verdict) {
 }
 
 // What a write answered, and its room as it is afterwards.
-pub fn say_written(written: Written, room: &[u8]) {
+pub(crate) fn say_written(written: Written, room: &[u8]) {
     let verdict = written.verdict;
     say_verdict(verdict);
     say_number(written.length as u64);
@@ -81,20 +81,20 @@ pub fn say_written(written: Written, room: &[u8]) {
 }
 
 // A kind and a number: what is told of which kind is said where it is called.
-pub fn say_tagged(tag: u8, number: u64) {
+pub(crate) fn say_tagged(tag: u8, number: u64) {
     say_small(tag);
     say_number(number)
 }
 
 // 0 for a short address and 1 for a serial, and its number.
-pub fn say_address(address: Address) {
+pub(crate) fn say_address(address: Address) {
     match address {
         Address::Short(byte) => say_tagged(0, byte as u64),
         Address::Serial(serial) => say_tagged(1, serial as u64),
     }
 }
 
-pub fn say_reading(reading: Reading) {
+pub(crate) fn say_reading(reading: Reading) {
     say_flag(reading.minus);
     say_number(reading.number as u64);
     say_small(reading.point);

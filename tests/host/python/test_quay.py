@@ -29,10 +29,9 @@ NO_WEIGHT = quay.Weight(0xFF, 0xFF, 0xFF, 0xFF)
 
 
 def load_tests(loader: unittest.TestLoader, tests: unittest.TestSuite, pattern: str) -> unittest.TestSuite:
-    """What the docstrings and the README say is tried too."""
+    """What the docstrings say is tried too. (The README: session.py.)"""
     for module in (quay, quay_refusal, quay_weight, quay_message, quay_line, quay_log):
         tests.addTests(doctest.DocTestSuite(module))
-    tests.addTests(doctest.DocFileSuite(os.path.join(binding.BINDING, 'README.md'), module_relative=False))
     return tests
 
 

@@ -1,0 +1,19 @@
+//! The poll that bindings/rust/README.md prints, as it prints it (printed.rs), with a line for it to hear.
+include!("printed.rs");
+
+fn main() {
+    let mut sent = Vec::new();
+    ask(&mut |bytes| sent.extend_from_slice(bytes)).expect("the request is a message");
+    assert_eq!(sent, [0xFF, 0x01, 0xC3, 0xE3, 0xFF, 0xFF]); // E1 of the rules paper
+
+    // E3, cut in two, and a frame whose check is wrong (E6).
+    let blocks: [&[u8]; 2] =
+        [&[0xFF, 0x01, 0xC3, 0x51, 0x02], &[0x00, 0x01, 0xDE, 0xFF, 0xFF, 0xFF, 0x01, 0xC3, 0xE2, 0xFF, 0xFF]];
+    let mut reader = Reader::new();
+    let mut log = Vec::new();
+    for block in blocks {
+        hear(&mut reader, block, 1000, &mut |bytes| log.extend_from_slice(bytes)).expect("every event makes its record");
+    }
+    assert_eq!(log.len(), 2 * quay::RECORD_LENGTH);
+    assert_eq!([log[8], log[quay::RECORD_LENGTH + 8]], [1, 3]); // a gross weight, and a refusal
+}
