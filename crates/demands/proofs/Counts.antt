@@ -1,7 +1,7 @@
 -- Shown: from every state handed in, an event's body count lies within 0 to 255, and both its counts are those of the bytes taken and kept.
 -- Why: a state handed in keeps at most 255 bytes and the 256th is never kept; each byte counts one, and each event counts the bytes kept.
 use Prim.Native.Nat.{ℕ, _+_, _%_, _^_, _≤_}
-use mathlib.Core.Path.{_≡_, refl, subst}
+use mathlib.Core.Path.{_≡_, refl, ap, subst}
 use mathlib.Core.List.{List, [], _∷_}
 use native.Mathlib.Omega.{arith}
 use lib.ListN.{length, length-append}
@@ -27,8 +27,9 @@ counted listener byte few =
     let kept = keptOf (listener .state) in
     every-step (Counted listener) listener byte
     (record {
-      silent = λ next fewer. (omega arith, (tt, tt));
-      keeps = λ more fits. (omega (arith, length-append kept (more ∷ [])), (tt, tt));
+      empty = λ next none. (omega (arith, ap length none), (tt, tt));
+      as-it-was = (few, (tt, tt));
+      keeps = λ more _ fits. (omega (arith, length-append kept (more ∷ [])), (tt, tt));
       full = λ over. (omega arith, ((omega arith, λ _. refl), (refl, omega arith)));
       broken = (omega arith, ((few, λ e. cc), (refl, refl)));
       good = λ _. (omega arith, ((refl, few), (refl, refl)));
@@ -45,7 +46,7 @@ few-after listener (byte ∷ bytes) few = few-after (hear listener byte .next) b
 ticked : (listener : Listener) (byte : ℕ) → hear listener byte .next .wire ≡ tick (listener .wire)
 ticked listener byte =
     every-step (λ (s : Step). s .next .wire ≡ tick (listener .wire)) listener byte
-    (record { silent = λ _ _. refl; keeps = λ _ _. refl; full = λ _. refl; broken = refl; good = λ _. refl; bad = λ _ _. refl })
+    (record { empty = λ _ _. refl; as-it-was = refl; keeps = λ _ _ _. refl; full = λ _. refl; broken = refl; good = λ _. refl; bad = λ _ _. refl })
 
 ticks : (listener : Listener) (before : List ℕ) → tick (after listener before .wire) ≡ (listener .wire + length before + 1) % 2 ^ 64
 unfolding after tick

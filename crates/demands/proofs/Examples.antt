@@ -17,4 +17,4 @@ use Rattle.demands.specs.Examples.{JudgedExamples}
 
 pub judged-examples : JudgedExamples
 unfolding shiftIn feedBits feedByte feedAll received legal addressIn addressLength short judged judgedLent codeIn dataIn stuffedByte stuffed framed tick keep ended hearIn hear andThen events legalReading readOf valueOf readIn lineIn lineOf rowOf lowFirst judgedData judgedMessage judgedCode messageOf readIf readMessage
-judged-examples = record { read = refl; written = refl }
+judged-examples = record { read = refl; written = refl; too-long = (refl, refl) }

@@ -13,17 +13,17 @@ use Rattle.demands.specs.Noted.{IsNoted, LineRefusalsNoted, MessageRefus
 use Rattle.demands.proofs.Refusals.{end-refuses, message-refuses}
 
 -- the log notes 1 to 8
-abbrev Met : Refusal → Type 0
+abbrev pub Met : Refusal → Type 0
 Met why = lineStatus (numberOf why) ≡ true
 
-is-noted : (time : ℕ) (why : Refusal) → Met why → IsNoted time why
+pub is-noted : (time : ℕ) (why : Refusal) → Met why → IsNoted time why
 unfolding recordOf metRecord
 is-noted time why met = rw met
 
 pub message-refusals-noted : MessageRefusalsNoted
 message-refusals-noted time role body why e = is-noted time why (message-refuses Met refl refl refl refl refl refl refl role body why e)
 
-abbrev Told : Heard → Type 0
+abbrev pub Told : Heard → Type 0
 Told nothing = Unit {0}
 Told (frame wire kept body) = Unit {0}
 Told (refused why wire kept) = Met why

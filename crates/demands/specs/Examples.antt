@@ -4,10 +4,11 @@ use Prim.Native.Nat.{ℕ}
 use mathlib.Core.Path.{_≡_}
 use mathlib.Core.Bool.{true, false}
 use mathlib.Core.List.{List, [], _∷_, _++_, map}
-use lib.ListN.{replicate}
+use lib.ListN.{length, replicate}
 use lib.IntN.{pos, negsuc}
 use Rattle.refusal.specs.declared.Refusal.the-variants.{BodyShort, BodyLong, HeldBroken, CheckWrong, CodeUnknown}
 use Rattle.body.specs.declared.addresses.Address.the-variants.{Short}
+use Rattle.body.specs.Body.{checkRight}
 use Rattle.frame.specs.Stuffing.{framed}
 use Rattle.line.specs.Listener.{Heard, nothing, frame, refused, fresh, events}
 use Rattle.weight.specs.declared.Value.{Value}
@@ -77,6 +78,10 @@ from1 code to what = received-as.Message (record { address = Short 1; code = cod
 abbrev pub zeros : ℕ → ℕ → List ℕ
 zeros count check = 0x01 ∷ (replicate count 0 ++ (check ∷ []))
 
+-- E8's second half, "with one zero more": 256 bytes, its check the right one
+abbrev pub oneZeroMore : List ℕ
+oneZeroMore = zeros 254 0x01
+
 abbrev pub examples : List Example
 examples =
     record { wire = 0xFF ∷ 0x01 ∷ 0xC3 ∷ 0xE3 ∷ 0xFF ∷ 0xFF ∷ []; heard = frame 6 3 (0x01 ∷ 0xC3 ∷ 0xE3 ∷ []) ∷ []; role = Request; said = from1 0xC3 2 says.Nothing ∷ []; values = [] }
@@ -112,10 +117,12 @@ examples =
       said = received-as.Refused CodeUnknown ∷ [];
       values = [];
     }
-    ∷ record { wire = 0xFF ∷ (zeros 254 0x01 ++ (0xFF ∷ 0xFF ∷ [])); heard = refused BodyLong 257 255 ∷ []; role = Reply; said = []; values = [] }
+    ∷ record { wire = 0xFF ∷ (oneZeroMore ++ (0xFF ∷ 0xFF ∷ [])); heard = refused BodyLong 257 255 ∷ []; role = Reply; said = []; values = [] }
     ∷ []
 
--- the one claim: what is heard, said and weighed is what the table says, and what was heard whole is written as it was sent
+-- the one claim: what is heard, said and weighed is what the table says, what was heard whole is written as it was sent, and the body that is
+-- refused for its length alone has 256 bytes and the right check
 pub record JudgedExamples : Type 0 where
   pub read : map computed examples ≡ examples
   pub written : map framedAgain examples ≡ map asSent examples
+  pub too-long : (length oneZeroMore ≡ 256) × (checkRight oneZeroMore ≡ true)

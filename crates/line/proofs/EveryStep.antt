@@ -1,11 +1,11 @@
 -- Shown: what holds of each kind of step holds of every step; and what each byte's event has, all events of any bytes have.
--- Why: in each state the tests on a byte lead to one of six kinds, and the events of some bytes are those of each byte in turn.
+-- Why: in each state the tests on a byte lead to one of seven kinds, and the events of some bytes are those of each byte in turn.
 use Prim.Native.Nat.{ℕ, _≤_, _<_}
 use mathlib.Core.Path.{_≡_, refl}
 use mathlib.Core.Bool.{Bool, true, false, cond}
 use mathlib.Core.List.{List, [], _∷_, _++_, List·Memᴰ, List·Memᴰ·head, List·Memᴰ·tail, List·Memᴰ·not-nil}
-use native.Mathlib.Omega.{arith}
 use borrow.Author.Tests.{ltb-true, ltb-false}
+use mathlib.Core.Logic.{_⊎_, inl, inr}
 use lib.Dec.{ltb, eqb}
 use lib.ListN.{length}
 use Rattle.refusal.specs.declared.Refusal.{Refusal}
@@ -16,11 +16,12 @@ use Rattle.body.specs.Body.{longest, judged}
 use Rattle.line.specs.Listener.{State, seeking, delimited, inside, held, Heard, nothing, frame, refused, Listener, Step, step, keep, ended, tick, hearIn, hear, andThen, events}
 use Rattle.line.specs.Readers.{keptOf}
 
--- the kinds of step where some bytes are kept: no more is kept and nothing told; one byte more is kept; the 256th is refused, or the byte behind
--- a held FF; the body has ended, and is good or not
-pub record EachKind (holds : Step → Type 0) (kept : List ℕ) (wire : ℕ) : Type 0 where
-  pub silent : (next : State) → length (keptOf next) ≤ length kept → holds (step next wire nothing)
-  pub keeps : (byte : ℕ) → length kept < longest → holds (step (inside (kept ++ (byte ∷ []))) wire nothing)
+-- the kinds of step of a byte where some bytes are kept: the body is left or none was open; an FF is held; one byte more is kept, the byte itself or
+-- the FF that was held; the 256th is refused, or a byte behind a held FF; the body has ended, and is good or not
+pub record EachKind (holds : Step → Type 0) (kept : List ℕ) (byte wire : ℕ) : Type 0 where
+  pub empty : (next : State) → keptOf next ≡ [] → holds (step next wire nothing)
+  pub as-it-was : holds (step (held kept) wire nothing)
+  pub keeps : (more : ℕ) → (more ≡ byte) ⊎ (more ≡ 0xFF) → length kept < longest → holds (step (inside (kept ++ (more ∷ []))) wire nothing)
   pub full : longest ≤ length kept → holds (step seeking wire (refused BodyLong wire longest))
   pub broken : holds (step seeking wire (refused HeldBroken wire (length kept)))
   pub good : judged kept ≡ Good → holds (step delimited wire (frame wire (length kept) kept))
@@ -31,11 +32,11 @@ module _ (holds : Step → Type 0) where
   either true x y p q = p refl
   either false x y p q = q refl
 
-  module _ (kept : List ℕ) (wire : ℕ) (each : EachKind holds kept wire) where
-    to-keep : (byte : ℕ) → holds (keep kept byte wire)
+  module _ (kept : List ℕ) (byte wire : ℕ) (each : EachKind holds kept byte wire) where
+    to-keep : (more : ℕ) → (more ≡ byte) ⊎ (more ≡ 0xFF) → holds (keep kept more wire)
     unfolding keep
-    to-keep byte =
-        either (ltb (length kept) longest) _ _ (λ fits. each .keeps byte (ltb-true (length kept) longest fits))
+    to-keep more which =
+        either (ltb (length kept) longest) _ _ (λ fits. each .keeps more which (ltb-true (length kept) longest fits))
         (λ no-room. each .full (ltb-false (length kept) longest no-room))
 
     at-end : (verdict : Verdict) → judged kept ≡ verdict → holds (step delimited wire (ended verdict kept wire))
@@ -43,18 +44,18 @@ module _ (holds : Step → Type 0) where
     at-end Good e = each .good e
     at-end (Refused why) e = each .bad why e
 
-  pub every-state : (state : State) (byte wire : ℕ) → EachKind holds (keptOf state) wire → holds (hearIn state byte wire)
+  pub every-state : (state : State) (byte wire : ℕ) → EachKind holds (keptOf state) byte wire → holds (hearIn state byte wire)
   unfolding hearIn
-  every-state seeking byte wire each = either (eqb byte 0xFF) _ _ (λ _. each .silent delimited (omega arith)) (λ _. each .silent seeking (omega arith))
+  every-state seeking byte wire each = either (eqb byte 0xFF) _ _ (λ _. each .empty delimited refl) (λ _. each .empty seeking refl)
   every-state delimited byte wire each =
-      either (eqb byte 0xFF) _ _ (λ _. each .silent delimited (omega arith))
-      (λ _. either (eqb byte 0xFE) _ _ (λ _. each .silent seeking (omega arith)) (λ _. to-keep [] wire each byte))
-  every-state (inside kept) byte wire each = either (eqb byte 0xFF) _ _ (λ _. each .silent (held kept) (omega arith)) (λ _. to-keep kept wire each byte)
+      either (eqb byte 0xFF) _ _ (λ _. each .empty delimited refl)
+      (λ _. either (eqb byte 0xFE) _ _ (λ _. each .empty seeking refl) (λ _. to-keep [] byte wire each byte (inl refl)))
+  every-state (inside kept) byte wire each = either (eqb byte 0xFF) _ _ (λ _. each .as-it-was) (λ _. to-keep kept byte wire each byte (inl refl))
   every-state (held kept) byte wire each =
-      either (eqb byte 0xFE) _ _ (λ _. to-keep kept wire each 0xFF)
-      (λ _. either (eqb byte 0xFF) _ _ (λ _. at-end kept wire each (judged kept) refl) (λ _. each .broken))
+      either (eqb byte 0xFE) _ _ (λ _. to-keep kept byte wire each 0xFF (inr refl))
+      (λ _. either (eqb byte 0xFF) _ _ (λ _. at-end kept byte wire each (judged kept) refl) (λ _. each .broken))
 
-  pub every-step : (listener : Listener) (byte : ℕ) → EachKind holds (keptOf (listener .state)) (tick (listener .wire)) → holds (hear listener byte)
+  pub every-step : (listener : Listener) (byte : ℕ) → EachKind holds (keptOf (listener .state)) byte (tick (listener .wire)) → holds (hear listener byte)
   unfolding hear
   every-step listener byte each = every-state (listener .state) byte (tick (listener .wire)) each
 
@@ -64,7 +65,7 @@ pub every-told : (holds : Heard → Type 0) (listener : Listener) (byte : ℕ) �
     → ((why : Refusal) → judged kept ≡ Refused why → holds (refused why wire (length kept))) → holds (hear listener byte .event)
 every-told holds listener byte none full broken good bad =
     every-step (λ (s : Step). holds (s .event)) listener byte
-    (record { silent = λ _ _. none; keeps = λ _ _. none; full = λ _. full; broken = broken; good = good; bad = bad })
+    (record { empty = λ _ _. none; as-it-was = none; keeps = λ _ _ _. none; full = λ _. full; broken = broken; good = good; bad = bad })
 
 -- ---- a list of bytes
 

@@ -60,8 +60,9 @@ listening-fine place array byte =
     let (few, stands) = at-front place array in
     every-step (Fine array) (listening place array) byte
     (record {
-      silent = λ next fewer. (omega arith, refl);
-      keeps = λ more fits. (omega (arith, length-append kept (more ∷ [])), refl);
+      empty = λ next none. (omega (arith, ap length none), refl);
+      as-it-was = (few, refl);
+      keeps = λ more _ fits. (omega (arith, length-append kept (more ∷ [])), refl);
       full = λ _. (omega arith, refl);
       broken = (omega arith, refl);
       good = λ _. (omega arith, ap (λ (l : List ℕ). frame (tick (listening place array .wire)) (length kept) l) stands);
