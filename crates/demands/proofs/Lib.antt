@@ -13,5 +13,6 @@ pub mod Noted
 pub mod Piece
 pub mod Reading
 pub mod Refusals
+pub mod Tells
 pub mod Weighings
 pub mod WrittenDown

@@ -3,7 +3,7 @@
 use Prim.Native.Nat.{ℕ}
 use mathlib.Core.Path.{_≡_}
 use mathlib.Core.Bool.{true, false}
-use mathlib.Core.List.{List, [], _∷_, _++_, map}
+use mathlib.Core.List.{List, [], _∷_, _++_, map, flatten}
 use lib.ListN.{length, replicate}
 use lib.IntN.{pos, negsuc}
 use Rattle.refusal.specs.declared.Refusal.the-variants.{BodyShort, BodyLong, HeldBroken, CheckWrong, CodeUnknown}
@@ -22,6 +22,9 @@ use Rattle.meaning.specs.declared.meaning.What.the-variants as says
 use Rattle.message.specs.declared.reading.Received.{Received}
 use Rattle.message.specs.declared.reading.Received.the-variants as received-as
 use Rattle.message.specs.Reading.{readMessage}
+use Rattle.entries.specs.declared.entries.Entry.{Entry}
+use Rattle.entries.specs.declared.entries.Entry.the-variants.{Nothing, Weight, Message, Refused}
+use Rattle.entries.specs.Entries.{entryOf}
 
 pub record Example : Type 0 where
   pub wire : List ℕ
@@ -31,30 +34,23 @@ pub record Example : Type 0 where
   pub values : List Value
 
 -- the bodies of the frames heard
+abbrev pub bodyOfFrame : Heard → List (List ℕ)
+bodyOfFrame nothing = []
+bodyOfFrame (frame wire kept body) = body ∷ []
+bodyOfFrame (refused why wire kept) = []
+
 abbrev pub bodiesOf : List Heard → List (List ℕ)
-bodiesOf [] = []
-bodiesOf (nothing ∷ heard) = bodiesOf heard
-bodiesOf (frame wire kept body ∷ heard) = body ∷ bodiesOf heard
-bodiesOf (refused why wire kept ∷ heard) = bodiesOf heard
+bodiesOf heard = flatten (map bodyOfFrame heard)
 
 -- the values of the weights said
-abbrev pub weighed : What → List Value → List Value
-weighed says.Nothing later = later
-weighed (says.Serial serial) later = later
-weighed (says.Number number) later = later
-weighed (says.Status status) later = later
-weighed (says.Weight load reading) later = valueOf reading ∷ later
-weighed (says.Inputs bits on) later = later
-weighed (says.Outputs bits) later = later
-weighed (says.Text number from to) later = later
-weighed (says.Event event from to) later = later
-weighed (says.Converter count) later = later
-weighed (says.Error error) later = later
+abbrev pub valueIn : Entry → List Value
+valueIn Nothing = []
+valueIn (Weight load address reading) = valueOf reading ∷ []
+valueIn (Message address code) = []
+valueIn (Refused why) = []
 
 abbrev pub valuesOf : List Received → List Value
-valuesOf [] = []
-valuesOf (received-as.Message message ∷ said) = weighed (message .what) (valuesOf said)
-valuesOf (received-as.Refused why ∷ said) = valuesOf said
+valuesOf said = flatten (map (λ (received : Received). valueIn (entryOf received)) said)
 
 -- what the definitions make of an example's bytes
 abbrev pub computed : Example → Example
