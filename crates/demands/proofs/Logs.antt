@@ -4,7 +4,6 @@ use Prim.Native.Nat.{ℕ, _+_, _^_, _<_}
 use mathlib.Core.Path.{_≡_, refl, ap}
 use mathlib.Core.Bool.{true}
 use mathlib.Core.List.{List, [], _∷_}
-use native.Mathlib.Omega.{arith}
 use Rattle.line.specs.Listener.{Heard, nothing, frame, refused}
 use Rattle.codes.specs.declared.table.Role.{Role}
 use Rattle.message.specs.declared.reading.Received.{Received}

@@ -1,27 +1,25 @@
 -- Shown: no weighing in the log and no weight in the listing, of any bytes from any state handed in, unless a reply C2 or C3 with its four bytes was heard.
 -- Why: a line hands out a body only where it is good, a record or an entry of a weight is made of such a body alone, and such a body is its parts again.
-use Prim.Native.Nat.{ℕ, suc, _+_}
-use mathlib.Core.Path.{_≡_, _∙_, refl, sym, ap}
-use mathlib.Core.Bool.{Bool, true, false}
+use Prim.Native.Nat.{ℕ, _+_}
+use mathlib.Core.Path.{_≡_, _∙_, refl, sym, ap, subst}
 use mathlib.Core.List.{List, [], _∷_, _++_, map, List·Memᴰ, List·Memᴰ·head, List·Memᴰ·tail, List·Memᴰ·not-nil}
 use mathlib.Core.Logic.{_⊎_, inl, inr}
 use native.Mathlib.Omega.{arith}
 use lib.Dec.{T, ltb}
 use lib.Pow.{areBytes}
-use lib.ListN.{take, getD}
+use lib.ListN.{length, getD}
 use Rattle.refusal.specs.declared.Verdict.the-variants.{Good}
 use Rattle.refusal.proofs.Booleans.{T-left, T-right, T-both}
 use Rattle.room.proofs.ByteLists.{bytes-take}
 use Rattle.body.specs.declared.addresses.Address.{Address}
-use Rattle.body.specs.Body.{judged, bodyOf, codeIn, dataIn}
+use Rattle.body.specs.Body.{judged, codeIn, dataIn}
 use Rattle.body.specs.Addresses.{addressIn}
 use Rattle.body.proofs.Rebuilding.{rebuilt}
-use Rattle.line.specs.declared.places.Phase.{Phase}
-use Rattle.line.specs.declared.places.Phase.the-variants.{Seeking, Delimited, Inside, Held}
 use Rattle.line.specs.declared.reading.Reader.{Reader}
 use Rattle.line.specs.Listener.{Heard, nothing, frame, refused, Listener, Step, hear, events}
-use Rattle.line.specs.Readers.{view, listening, stateOf, keptOf}
+use Rattle.line.specs.Readers.{view, keptOf}
 use Rattle.line.proofs.EveryStep.{every-step, every-told, every-event}
+use Rattle.line.proofs.Joined.{kept-front}
 use Rattle.weight.specs.declared.Reading.{Reading}
 use Rattle.codes.specs.declared.table.Role.{Role}
 use Rattle.codes.specs.declared.table.Role.the-variants.{Reply}
@@ -36,10 +34,9 @@ use Rattle.records.specs.declared.records.Record.{Record}
 use Rattle.weighing_log.specs.declared.hearing.Noted.{Noted}
 use Rattle.weighing_log.specs.declared.hearing.Noted.the-variants as noted-as
 use Rattle.weighing_log.specs.Hearing.{notedHeard}
-use Rattle.weighing_log.specs.Heard.{codeOf, HeardAs}
+use Rattle.weighing_log.specs.Heard.{codeOf}
 use Rattle.weighing_log.proofs.Heard.{refusal-kind}
 use Rattle.weighing_log.proofs.Weighings.{heard as weighing-heard, address-is, said-code, spelled, packed-back}
-use Rattle.entries.specs.declared.entries.Entry.{Entry}
 use Rattle.entries.specs.declared.entries.Entry.the-variants.{Weight}
 use Rattle.entries.specs.Entries.{messageEntry, entryOf, entryHeard}
 use Rattle.demands.proofs.Entries.{Lists, a-weight, by-code, lists}
@@ -82,18 +79,7 @@ stays listener byte small all =
     by-which more (inr e) = rw e tt
 
 handed : (reader : Reader) → T (areBytes (reader .body)) → Bytes (view reader)
-unfolding listening
-handed reader all = by-count (ltb 255 (reader .place .kept .0)) refl
-  where
-    by-phase : (phase : Phase) → T (areBytes (keptOf (stateOf phase (take (reader .place .kept .0) (reader .body)))))
-    by-phase Seeking = tt
-    by-phase Delimited = tt
-    by-phase Inside = bytes-take (reader .place .kept .0) (reader .body) all
-    by-phase Held = bytes-take (reader .place .kept .0) (reader .body) all
-
-    by-count : (test : Bool) → ltb 255 (reader .place .kept .0) ≡ test → Bytes (view reader)
-    by-count true over-long = rw over-long tt
-    by-count false few = rw few (by-phase (reader .place .phase))
+handed reader all = subst (λ (kept : List ℕ). T (areBytes kept)) (kept-front (reader .place) (reader .body)) (bytes-take (length (keptOf (view reader .state))) (reader .body) all)
 
 all-whole : (reader : Reader) → T (areBytes (reader .body)) → (bytes : List ℕ) → T (areBytes bytes) → (heard : Heard) → List·Memᴰ heard (events (view reader) bytes)
     → Whole heard

@@ -11,7 +11,6 @@ use Rattle.refusal.specs.declared.Refusal.{Refusal}
 use Rattle.refusal.specs.declared.Refusal.the-variants.{FieldOutside}
 use Rattle.refusal.specs.declared.Verdict.the-variants.{Good}
 use Rattle.room.specs.Writing.{wrote}
-use Rattle.body.specs.Body.{dataIn}
 use Rattle.line.specs.Listener.{Heard, nothing, frame, refused, hear}
 use Rattle.weight.specs.declared.Reading.{Reading}
 use Rattle.weight.specs.declared.Read.the-variants as read-as
@@ -44,7 +43,7 @@ use Rattle.demands.proofs.Entries.{Lists, a-weight as lists-weight, by-
 use Rattle.demands.proofs.Logs.{noted-good}
 use Rattle.demands.proofs.Noted.{Met, Told, is-noted, line-told}
 use Rattle.demands.proofs.Refusals.{message-refuses}
-use Rattle.demands.specs.WrittenDown.{Sound, CanBeWritten, AlwaysWritten}
+use Rattle.demands.specs.WrittenDown.{Sound, AlwaysWritten}
 
 -- ---- a message that was read
 

@@ -53,6 +53,10 @@ pub few-kept : (place : Place) (array : List ℕ) → length (keptOf (listening 
 unfolding AtFront
 few-kept place array = at-front place array .0
 
+pub kept-front : (place : Place) (array : List ℕ) → take (length (keptOf (listening place array .state))) array ≡ keptOf (listening place array .state)
+unfolding AtFront
+kept-front place array = at-front place array .1
+
 listening-fine : (place : Place) (array : List ℕ) (byte : ℕ) → Fine array (hear (listening place array) byte)
 unfolding Fine AtFront
 listening-fine place array byte =
