@@ -1,5 +1,4 @@
 pub mod Anatomy
-pub mod OnLine
 pub mod OneAnswer
 pub mod Rebuilding
 pub mod Shortness

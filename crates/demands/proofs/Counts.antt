@@ -1,67 +1,65 @@
--- Shown: the body count of every event lies within 0 to 255, and of a frame it is its body's length.
--- Why: a state keeps at most 255 bytes, since the 256th is never kept; each event counts the bytes kept.
-use Prim.Native.Nat.{ℕ, _+_, _≤_}
-use mathlib.Core.Path.{_≡_, refl}
-use mathlib.Core.Bool.{Bool, true, false, cond}
-use mathlib.Core.List.{List, [], _∷_, _++_}
+-- Shown: from every state handed in, an event's body count lies within 0 to 255, and both its counts are those of the bytes taken and kept.
+-- Why: a state handed in keeps at most 255 bytes and the 256th is never kept; each byte counts one, and each event counts the bytes kept.
+use Prim.Native.Nat.{ℕ, _+_, _%_, _^_, _≤_}
+use mathlib.Core.Path.{_≡_, refl, ap, subst}
+use mathlib.Core.List.{List, [], _∷_}
 use native.Mathlib.Omega.{arith}
-use borrow.Author.Tests.{ltb-true}
-use lib.Dec.{eqb, ltb}
 use lib.ListN.{length, length-append}
+use Rattle.refusal.specs.declared.Refusal.{Refusal}
 use Rattle.refusal.specs.declared.Refusal.the-variants.{BodyLong}
-use Rattle.refusal.specs.declared.Verdict.{Verdict}
-use Rattle.refusal.specs.declared.Verdict.the-variants.{Good, Refused}
-use Rattle.body.specs.Body.{longest, judged}
-use Rattle.line.specs.Listener.{State, seeking, delimited, inside, held, Heard, nothing, frame, refused, Listener, Step, step, keep, ended, hearIn, hear, tick, heardThen, events}
-use Rattle.demands.specs.Wire.{Within, AllWithin, CountsWithin}
+use Rattle.body.specs.Body.{longest}
+use Rattle.line.specs.Listener.{Listener, Step, hear, tick, after}
+use Rattle.line.specs.Readers.{view, keptOf}
+use Rattle.line.proofs.EveryStep.{every-step, every-event}
+use Rattle.line.proofs.Joined.{few-kept}
+use Rattle.demands.specs.Counts.{Within, CountsWithin, Carries, CountsTied}
+use Rattle.message.proofs.Refusals.{end-refuses}
 
-abbrev Bounded : State → Type 0
-Bounded seeking = Unit {0}
-Bounded delimited = Unit {0}
-Bounded (inside kept) = length kept ≤ longest
-Bounded (held kept) = length kept ≤ longest
+abbrev Few : Listener → Type 0
+Few listener = length (keptOf (listener .state)) ≤ longest
 
-abbrev Sound : Step → Type 0
-Sound one = Bounded (one .next .state) × Within (one .event)
+-- one byte
+abbrev Counted : Listener → Step → Type 0
+Counted listener s = Few (s .next) × (Within (s .event) × Carries (tick (listener .wire)) (length (keptOf (listener .state))) (s .event))
 
-either : (test : Bool) (x y : Step) → Sound x → Sound y → Sound (cond test x y)
-either true x y p q = p
-either false x y p q = q
+counted : (listener : Listener) (byte : ℕ) → Few listener → Counted listener (hear listener byte)
+counted listener byte few =
+    let kept = keptOf (listener .state) in
+    every-step (Counted listener) listener byte
+    (record {
+      empty = λ next none. (omega (arith, ap length none), (tt, tt));
+      as-it-was = (few, (tt, tt));
+      keeps = λ more _ fits. (omega (arith, length-append kept (more ∷ [])), (tt, tt));
+      full = λ over. (omega arith, ((omega arith, λ _. refl), (refl, omega arith)));
+      broken = (omega arith, ((few, λ e. cc), (refl, refl)));
+      good = λ _. (omega arith, ((refl, few), (refl, refl)));
+      bad = λ why e.
+          (omega arith, ((few, end-refuses (λ (why : Refusal). why ≡ BodyLong → length kept ≡ longest) (λ e. cc) (λ e. cc) (λ e. cc) kept why e), (refl, refl)));
+    })
 
-kept-sound : (kept : List ℕ) (byte wire : ℕ) → Sound (keep kept byte wire)
-unfolding keep
-kept-sound kept byte wire = by-room (ltb (length kept) longest) refl
-  where
-    by-room : (test : Bool) → ltb (length kept) longest ≡ test
-        → Sound (cond test (step (inside (kept ++ (byte ∷ []))) wire nothing) (step seeking wire (refused BodyLong wire longest)))
-    by-room true fits = (omega (arith, ltb-true (length kept) longest fits, length-append kept (byte ∷ [])), tt)
-    by-room false full = (tt, omega arith)
+-- any bytes
+few-after : (listener : Listener) (bytes : List ℕ) → Few listener → Few (after listener bytes)
+unfolding after
+few-after listener [] few = few
+few-after listener (byte ∷ bytes) few = few-after (hear listener byte .next) bytes (counted listener byte few .0)
 
-ended-within : (verdict : Verdict) (kept : List ℕ) (wire : ℕ) → length kept ≤ longest → Within (ended verdict kept wire)
-unfolding ended
-ended-within Good kept wire few = (refl, few)
-ended-within (Refused why) kept wire few = few
+ticked : (listener : Listener) (byte : ℕ) → hear listener byte .next .wire ≡ tick (listener .wire)
+ticked listener byte =
+    every-step (λ (s : Step). s .next .wire ≡ tick (listener .wire)) listener byte
+    (record { empty = λ _ _. refl; as-it-was = refl; keeps = λ _ _ _. refl; full = λ _. refl; broken = refl; good = λ _. refl; bad = λ _ _. refl })
 
-byte-sound : (state : State) (byte wire : ℕ) → Bounded state → Sound (hearIn state byte wire)
-unfolding hearIn
-byte-sound seeking byte wire few = either (eqb byte 0xFF) _ _ (tt, tt) (tt, tt)
-byte-sound delimited byte wire few = either (eqb byte 0xFF) _ _ (tt, tt) (either (eqb byte 0xFE) _ _ (tt, tt) (kept-sound [] byte wire))
-byte-sound (inside kept) byte wire few = either (eqb byte 0xFF) _ _ (few, tt) (kept-sound kept byte wire)
-byte-sound (held kept) byte wire few =
-    either (eqb byte 0xFE) _ _ (kept-sound kept 0xFF wire) (either (eqb byte 0xFF) _ _ (tt, ended-within (judged kept) kept wire few) (tt, few))
-
-then-within : (heard : Heard) (later : List Heard) → Within heard → AllWithin later → AllWithin (heardThen heard later)
-unfolding heardThen
-then-within nothing later p q = q
-then-within (frame wire kept body) later p q = (p, q)
-then-within (refused why wire kept) later p q = (p, q)
-
-from-any : (listener : Listener) → Bounded (listener .state) → (bytes : List ℕ) → AllWithin (events listener bytes)
-unfolding events hear
-from-any listener few [] = tt
-from-any listener few (byte ∷ bytes) =
-    let sound = byte-sound (listener .state) byte (tick (listener .wire)) few in
-    then-within (hear listener byte .event) (events (hear listener byte .next) bytes) (sound .1) (from-any (hear listener byte .next) (sound .0) bytes)
+ticks : (listener : Listener) (before : List ℕ) → tick (after listener before .wire) ≡ (listener .wire + length before + 1) % 2 ^ 64
+unfolding after tick
+ticks listener [] = omega arith
+ticks listener (byte ∷ before) = omega (arith, ticks (hear listener byte .next) before, ticked listener byte)
 
 pub counts-within : CountsWithin
-counts-within wire = from-any _ tt wire
+counts-within reader bytes =
+    every-event (λ (listener : Listener) (bytes : List ℕ). Few listener) Within
+    (λ listener byte bytes few. (counted listener byte few .0, counted listener byte few .1 .0)) (view reader) bytes (few-kept (reader .place) (reader .body))
+
+pub counts-tied : CountsTied
+counts-tied reader before byte =
+    let listener = after (view reader) before in
+    subst (λ (taken : ℕ). Carries taken (length (keptOf (listener .state))) (hear listener byte .event)) (ticks (view reader) before)
+    (counted listener byte (few-after (view reader) before (few-kept (reader .place) (reader .body))) .1 .1)

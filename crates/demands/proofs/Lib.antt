@@ -5,9 +5,14 @@ pub mod Corollaries
 pub mod Counts
 pub mod Cuts
 pub mod Demand3
+pub mod Entries
 pub mod Examples
+pub mod Logs
 pub mod Messages
 pub mod Noted
 pub mod Piece
 pub mod Reading
 pub mod Unheard
+pub mod Tells
+pub mod Weighings
+pub mod WrittenDown

@@ -3,11 +3,12 @@
 use Prim.Native.Nat.{ℕ}
 use mathlib.Core.Path.{_≡_}
 use mathlib.Core.Bool.{true, false}
-use mathlib.Core.List.{List, [], _∷_, _++_, map}
-use lib.ListN.{replicate}
+use mathlib.Core.List.{List, [], _∷_, _++_, map, flatten}
+use lib.ListN.{length, replicate}
 use lib.IntN.{pos, negsuc}
 use Rattle.refusal.specs.declared.Refusal.the-variants.{BodyShort, BodyLong, HeldBroken, CheckWrong, CodeUnknown}
 use Rattle.body.specs.declared.addresses.Address.the-variants.{Short}
+use Rattle.body.specs.Body.{checkRight}
 use Rattle.frame.specs.Stuffing.{framed}
 use Rattle.line.specs.Listener.{Heard, nothing, frame, refused, fresh, events}
 use Rattle.weight.specs.declared.Value.{Value}
@@ -21,6 +22,9 @@ use Rattle.meaning.specs.declared.meaning.What.the-variants as says
 use Rattle.message.specs.declared.reading.Received.{Received}
 use Rattle.message.specs.declared.reading.Received.the-variants as received-as
 use Rattle.message.specs.Reading.{readMessage}
+use Rattle.entries.specs.declared.entries.Entry.{Entry}
+use Rattle.entries.specs.declared.entries.Entry.the-variants.{Nothing, Weight, Message, Refused}
+use Rattle.entries.specs.Entries.{entryOf}
 
 pub record Example : Type 0 where
   pub wire : List ℕ
@@ -30,30 +34,23 @@ pub record Example : Type 0 where
   pub values : List Value
 
 -- the bodies of the frames heard
+abbrev pub bodyOfFrame : Heard → List (List ℕ)
+bodyOfFrame nothing = []
+bodyOfFrame (frame wire kept body) = body ∷ []
+bodyOfFrame (refused why wire kept) = []
+
 abbrev pub bodiesOf : List Heard → List (List ℕ)
-bodiesOf [] = []
-bodiesOf (nothing ∷ heard) = bodiesOf heard
-bodiesOf (frame wire kept body ∷ heard) = body ∷ bodiesOf heard
-bodiesOf (refused why wire kept ∷ heard) = bodiesOf heard
+bodiesOf heard = flatten (map bodyOfFrame heard)
 
 -- the values of the weights said
-abbrev pub weighed : What → List Value → List Value
-weighed says.Nothing later = later
-weighed (says.Serial serial) later = later
-weighed (says.Number number) later = later
-weighed (says.Status status) later = later
-weighed (says.Weight load reading) later = valueOf reading ∷ later
-weighed (says.Inputs bits on) later = later
-weighed (says.Outputs bits) later = later
-weighed (says.Text number from to) later = later
-weighed (says.Event event from to) later = later
-weighed (says.Converter count) later = later
-weighed (says.Error error) later = later
+abbrev pub valueIn : Entry → List Value
+valueIn Nothing = []
+valueIn (Weight load address reading) = valueOf reading ∷ []
+valueIn (Message address code) = []
+valueIn (Refused why) = []
 
 abbrev pub valuesOf : List Received → List Value
-valuesOf [] = []
-valuesOf (received-as.Message message ∷ said) = weighed (message .what) (valuesOf said)
-valuesOf (received-as.Refused why ∷ said) = valuesOf said
+valuesOf said = flatten (map (λ (received : Received). valueIn (entryOf received)) said)
 
 -- what the definitions make of an example's bytes
 abbrev pub computed : Example → Example
@@ -76,6 +73,10 @@ from1 code to what = received-as.Message (record { address = Short 1; code = cod
 -- body 01, then so many zeros, then a check
 abbrev pub zeros : ℕ → ℕ → List ℕ
 zeros count check = 0x01 ∷ (replicate count 0 ++ (check ∷ []))
+
+-- E8's second half, "with one zero more": 256 bytes, its check the right one
+abbrev pub oneZeroMore : List ℕ
+oneZeroMore = zeros 254 0x01
 
 abbrev pub examples : List Example
 examples =
@@ -112,10 +113,12 @@ examples =
       said = received-as.Refused CodeUnknown ∷ [];
       values = [];
     }
-    ∷ record { wire = 0xFF ∷ (zeros 254 0x01 ++ (0xFF ∷ 0xFF ∷ [])); heard = refused BodyLong 257 255 ∷ []; role = Reply; said = []; values = [] }
+    ∷ record { wire = 0xFF ∷ (oneZeroMore ++ (0xFF ∷ 0xFF ∷ [])); heard = refused BodyLong 257 255 ∷ []; role = Reply; said = []; values = [] }
     ∷ []
 
--- the one claim: what is heard, said and weighed is what the table says, and what was heard whole is written as it was sent
+-- the one claim: what is heard, said and weighed is what the table says, what was heard whole is written as it was sent, and the body that is
+-- refused for its length alone has 256 bytes and the right check
 pub record JudgedExamples : Type 0 where
   pub read : map computed examples ≡ examples
   pub written : map framedAgain examples ≡ map asSent examples
+  pub too-long : (length oneZeroMore ≡ 256) × (checkRight oneZeroMore ≡ true)

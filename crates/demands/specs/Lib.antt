@@ -1,6 +1,10 @@
+pub mod Counts
 pub mod Examples
+pub mod Logs
 pub mod Messages
 pub mod Noted
 pub mod Reading
 pub mod Unheard
+pub mod Weighings
 pub mod Wire
+pub mod WrittenDown

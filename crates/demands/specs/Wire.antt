@@ -101,19 +101,6 @@ StopsInside =
     (list : List Sent) (last : Sent) → AllProper list → Proper last → (stop : ℕ) → stop ≤ last .ahead + length (stuffed (last .body)) + 1
     → events fresh (wireOf list ++ take stop (onWire last)) ≡ framesOf 0 list
 
--- "The second counts body bytes kept at that moment, 0 to 255"
-abbrev pub Within : Heard → Type 0
-Within nothing = Unit {0}
-Within (frame wire kept body) = (kept ≡ length body) × (kept ≤ longest)
-Within (refused why wire kept) = kept ≤ longest
-
-abbrev pub AllWithin : List Heard → Type 0
-AllWithin [] = Unit {0}
-AllWithin (heard ∷ later) = Within heard × AllWithin later
-
-abbrev pub CountsWithin : Type 0
-CountsWithin = (wire : List ℕ) → AllWithin (events fresh wire)
-
 -- the wire cut in two anywhere: the second part is heard from where the first left the listener, and leaves it as the whole does
 pub record CutInTwo (listener : Listener) (first second : List ℕ) : Type 0 where
   pub heard : events listener (first ++ second) ≡ events listener first ++ events (after listener first) second

@@ -2,73 +2,76 @@
 -- Why: the kept bytes are read back from the array's front, and there are never more than 255 of them.
 use Prim.Native.Nat.{ℕ, _≤_}
 use mathlib.Core.Path.{_≡_, _∙_, refl, sym, ap}
-use mathlib.Core.Bool.{Bool, true, false, cond}
+use mathlib.Core.Bool.{Bool, true, false}
 use mathlib.Core.List.{List, [], _∷_}
 use native.Mathlib.Omega.{arith}
-use borrow.Author.Tests.{le-ltb, ltb-true, ltb-false}
-use lib.Dec.{ltb, eqb}
+use borrow.Author.Tests.{le-ltb, ltb-false}
+use lib.Dec.{ltb}
 use lib.ListN.{length, take, drop, length-append, length-take, take-append-drop}
 use lib.Seq.{take-append-seam}
-use Rattle.refusal.specs.declared.Verdict.{Verdict}
-use Rattle.refusal.specs.declared.Verdict.the-variants.{Good, Refused}
 use Rattle.room.specs.Laying.{over}
 use Rattle.room.proofs.Over.{over-length}
-use Rattle.body.specs.Body.{judged}
 use Rattle.line.specs.declared.places.Phase.{Phase}
 use Rattle.line.specs.declared.places.Phase.the-variants.{Seeking, Delimited, Inside, Held}
 use Rattle.line.specs.declared.places.Place.{Place}
 use Rattle.line.specs.declared.places.Moved.{Moved}
 use Rattle.line.specs.declared.reading.Reader.{Reader}
-use Rattle.line.specs.Listener.{State, seeking, delimited, inside, held, frame, Listener, Step, step, keep, ended, tick, hearIn, hear}
+use Rattle.line.specs.Listener.{State, seeking, delimited, inside, held, frame, Listener, Step, tick, hear}
 use Rattle.line.specs.Readers.{stateOf, listening, view, phaseOf, keptOf, placeOf, eventOf, heardAs, taken}
 use Rattle.line.specs.Steps.{Keeps}
+use Rattle.line.proofs.EveryStep.{every-step}
 
 -- what a step's array and count can hold: few kept bytes, and the body of a frame just heard
 Fine : List ℕ → Step → Type 0
 Fine array s = (length (keptOf (s .next .state)) ≤ 255) × (heardAs (eventOf (s .event)) (over (keptOf (s .next .state)) array) ≡ s .event)
-
-either : (array : List ℕ) (test : Bool) (a b : Step) → (test ≡ true → Fine array a) → (test ≡ false → Fine array b) → Fine array (cond test a b)
-either array true a b f g = f refl
-either array false a b f g = g refl
 
 -- the bytes kept in the array are read back from it
 front : (kept : ℕ) (array : List ℕ) → take (length (take kept array)) array ≡ take kept array
 front kept array =
     ap (λ (l : List ℕ). take (length (take kept array)) l) (sym (take-append-drop kept array)) ∙ take-append-seam (take kept array) (drop kept array)
 
-module _ (array : List ℕ) (byte wire : ℕ) where
-  keep-fine : (kept : List ℕ) → Fine array (keep kept byte wire)
-  unfolding Fine keep
-  keep-fine kept =
-      either array (ltb (length kept) 255) _ _
-      (λ (room : ltb (length kept) 255 ≡ true). (omega (arith, ltb-true (length kept) 255 room, length-append kept (byte ∷ [])), refl))
-      (λ (full : ltb (length kept) 255 ≡ false). (omega arith, refl))
+-- what a state handed in keeps: 255 bytes at most, and they stand at the front of its array
+AtFront : List ℕ → List ℕ → Type 0
+AtFront array kept = (length kept ≤ 255) × (take (length kept) array ≡ kept)
 
-  ended-fine : (kept : ℕ) (verdict : Verdict) → Fine array (step delimited wire (ended verdict (take kept array) wire))
-  unfolding Fine ended
-  ended-fine kept Good = (omega arith, ap (λ (l : List ℕ). frame wire (length (take kept array)) l) (front kept array))
-  ended-fine kept (Refused why) = (omega arith, refl)
+in-phase : (phase : Phase) (kept : ℕ) (array : List ℕ) → kept ≤ 255 → AtFront array (keptOf (stateOf phase (take kept array)))
+unfolding AtFront
+in-phase Seeking kept array few = (omega arith, refl)
+in-phase Delimited kept array few = (omega arith, refl)
+in-phase Inside kept array few = (omega (arith, length-take kept array), front kept array)
+in-phase Held kept array few = (omega (arith, length-take kept array), front kept array)
 
--- every step from at most 255 kept bytes is fine
-hear-fine : (array : List ℕ) (byte wire kept : ℕ) (phase : Phase) → kept ≤ 255 → Fine array (hearIn (stateOf phase (take kept array)) byte wire)
-unfolding Fine hearIn
-hear-fine array byte wire kept Seeking few = either array (eqb byte 0xFF) _ _ (λ _. (omega arith, refl)) (λ _. (omega arith, refl))
-hear-fine array byte wire kept Delimited few =
-    either array (eqb byte 0xFF) _ _ (λ _. (omega arith, refl))
-    (λ _. either array (eqb byte 0xFE) _ _ (λ _. (omega arith, refl)) (λ _. keep-fine array byte wire []))
-hear-fine array byte wire kept Inside few =
-    either array (eqb byte 0xFF) _ _ (λ _. (omega (arith, length-take kept array), refl)) (λ _. keep-fine array byte wire (take kept array))
-hear-fine array byte wire kept Held few =
-    either array (eqb byte 0xFE) _ _ (λ _. keep-fine array 0xFF wire (take kept array))
-    (λ _. either array (eqb byte 0xFF) _ _ (λ _. ended-fine array byte wire kept (judged (take kept array))) (λ _. (omega arith, refl)))
+at-front : (place : Place) (array : List ℕ) → AtFront array (keptOf (listening place array .state))
+unfolding AtFront listening
+at-front place array = by-count (ltb 255 (place .kept .0)) refl
+  where
+    by-count : (test : Bool) → ltb 255 (place .kept .0) ≡ test → AtFront array (keptOf (listening place array .state))
+    by-count true over-long = rw over-long (omega arith, refl)
+    by-count false few = rw few (in-phase (place .phase) (place .kept .0) array (ltb-false 255 (place .kept .0) few))
+
+pub few-kept : (place : Place) (array : List ℕ) → length (keptOf (listening place array .state)) ≤ 255
+unfolding AtFront
+few-kept place array = at-front place array .0
+
+pub kept-front : (place : Place) (array : List ℕ) → take (length (keptOf (listening place array .state))) array ≡ keptOf (listening place array .state)
+unfolding AtFront
+kept-front place array = at-front place array .1
 
 listening-fine : (place : Place) (array : List ℕ) (byte : ℕ) → Fine array (hear (listening place array) byte)
-unfolding hear listening
-listening-fine place array byte = by-count (ltb 255 (place .kept .0)) refl
-  where
-    by-count : (test : Bool) → ltb 255 (place .kept .0) ≡ test → Fine array (hear (listening place array) byte)
-    by-count true over-long = rw over-long (hear-fine array byte (tick 0) 0 Seeking (omega arith))
-    by-count false few = rw few (hear-fine array byte (tick (place .wire .0)) (place .kept .0) (place .phase) (ltb-false 255 (place .kept .0) few))
+unfolding Fine AtFront
+listening-fine place array byte =
+    let kept = keptOf (listening place array .state) in
+    let (few, stands) = at-front place array in
+    every-step (Fine array) (listening place array) byte
+    (record {
+      empty = λ next none. (omega (arith, ap length none), refl);
+      as-it-was = (few, refl);
+      keeps = λ more _ fits. (omega (arith, length-append kept (more ∷ [])), refl);
+      full = λ _. (omega arith, refl);
+      broken = (omega arith, refl);
+      good = λ _. (omega arith, ap (λ (l : List ℕ). frame (tick (listening place array .wire)) (length kept) l) stands);
+      bad = λ why _. (omega arith, refl);
+    })
 
 -- a listener with few kept bytes is read back from its place and array
 state-back : (state : State) → stateOf (phaseOf state) (keptOf state) ≡ state

@@ -1,4 +1,5 @@
 pub mod Blocks
+pub mod EveryStep
 pub mod Joined
 pub mod Keeping
 pub mod Moves

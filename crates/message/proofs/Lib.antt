@@ -1,5 +1,5 @@
 pub mod Checked
-pub mod OnLine
+pub mod Refusals
 pub mod Opening
 pub mod Order
 pub mod OneAnswer

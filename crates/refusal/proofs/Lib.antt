@@ -1,5 +1,4 @@
 pub mod Booleans
 pub mod Distinct
-pub mod OnLine
 pub mod OneAnswer
 pub mod Verdicts

@@ -1,0 +1,161 @@
+-- Shown: each notion that the statements are made of tells right from wrong: what differs in one thing does not pass for it.
+-- Why: in each the two sides compute to different numbers.
+use Prim.Native.Nat.{ℕ}
+use mathlib.Core.Path.{_≡_, refl, ap}
+use mathlib.Core.Bool.{Bool, true, false}
+use mathlib.Core.List.{List, [], _∷_, List·Memᴰ·not-nil}
+use native.Mathlib.Omega.{arith}
+use lib.ListN.{getD, replicate}
+use Rattle.refusal.specs.declared.Refusal.the-variants.{BodyLong, CheckWrong, CodeUnknown, LengthWrong, FieldOutside, RoomShort}
+use Rattle.refusal.specs.declared.Verdict.{Verdict}
+use Rattle.refusal.specs.declared.Verdict.the-variants.{Good, Refused}
+use Rattle.body.specs.declared.addresses.Address.the-variants.{Short}
+use Rattle.body.specs.Addresses.{legal, addressBytes}
+use Rattle.body.specs.Body.{unchecked, bodyOf}
+use Rattle.line.specs.Listener.{Heard, nothing, frame, refused}
+use Rattle.weight.specs.declared.Reading.{Reading}
+use Rattle.weight.specs.Bytes.{inRange, packedOf}
+use Rattle.codes.specs.declared.table.Role.the-variants.{Request, Reply}
+use Rattle.codes.specs.declared.table.Load.{Load}
+use Rattle.codes.specs.declared.table.Load.the-variants.{Net, Gross}
+use Rattle.records.specs.Records.{kindOf, addressOf}
+use Rattle.weighing_log.specs.Hearing.{weighing}
+use Rattle.entries.specs.declared.entries.Entry.the-variants.{Weight, Message}
+use Rattle.entries.specs.declared.entries.Entry.the-variants as entry-as
+use Rattle.demands.specs.Counts.{Within, Carries}
+use Rattle.demands.specs.Messages.{ExactlyWhere, FirstToFail}
+use Rattle.demands.specs.Weighings.{ReplyHeard, Among, WeighingHeard, ListedHeard}
+use Rattle.demands.specs.WrittenDown.{Sound}
+
+-- ---- counts
+
+within-size : Within (frame 9 2 (1 ∷ [])) → ⊥
+within-size h = omega (arith, h .0)
+
+within-255 : Within (frame 9 256 (replicate 256 0)) → ⊥
+within-255 h = omega (arith, h .1)
+
+within-refused : Within (refused CheckWrong 9 256) → ⊥
+within-refused h = omega (arith, h .0)
+
+within-two : Within (refused BodyLong 9 254) → ⊥
+within-two h = omega (arith, h .1 refl)
+
+carries-wire : Carries 5 3 (frame 6 3 []) → ⊥
+carries-wire h = omega (arith, h .0)
+
+carries-size : Carries 6 2 (frame 6 3 []) → ⊥
+carries-size h = omega (arith, h .1)
+
+carries-refused-wire : Carries 5 3 (refused CheckWrong 6 3) → ⊥
+carries-refused-wire h = omega (arith, h .0)
+
+carries-refused-size : Carries 6 2 (refused CheckWrong 6 3) → ⊥
+carries-refused-size h = omega (arith, h .1)
+
+-- ---- replies heard: E3 is a gross reply of address 1 with four bytes of its own
+
+bodyIn : Heard → List ℕ
+bodyIn nothing = []
+bodyIn (frame wire kept body) = body
+bodyIn (refused why wire kept) = []
+
+abbrev e3 : Heard
+e3 = frame 10 7 (0x01 ∷ 0xC3 ∷ 0x51 ∷ 0x02 ∷ 0x00 ∷ 0x01 ∷ 0xDE ∷ [])
+
+abbrev at : ℕ → Heard → ℕ
+at place heard = getD (bodyIn heard) place 0
+
+reply-load : {w0 w1 w2 con : ℕ} → ReplyHeard e3 Net (Short 1) (w0 ∷ w1 ∷ w2 ∷ con ∷ []) → ⊥
+unfolding bodyIn bodyOf unchecked addressBytes
+reply-load h = omega (arith, ap (at 1) (h .body))
+
+reply-address : {four : List ℕ} → ReplyHeard e3 Gross (Short 2) four → ⊥
+unfolding bodyIn bodyOf unchecked addressBytes
+reply-address h = omega (arith, ap (at 0) (h .body))
+
+reply-first : {w0 w1 w2 con : ℕ} → ReplyHeard e3 Gross (Short 1) (w0 ∷ w1 ∷ w2 ∷ con ∷ []) → w0 ≡ 0x51
+unfolding bodyIn bodyOf unchecked addressBytes
+reply-first h = omega (arith, ap (at 2) (h .body))
+
+reply-status : {w0 w1 w2 con : ℕ} → ReplyHeard e3 Gross (Short 1) (w0 ∷ w1 ∷ w2 ∷ con ∷ []) → con ≡ 0x01
+unfolding bodyIn bodyOf unchecked addressBytes
+reply-status h = omega (arith, ap (at 5) (h .body))
+
+nothing-among : Among [] (λ (heard : Heard). Unit {0}) → ⊥
+nothing-among found = List·Memᴰ·not-nil (found .among)
+
+none-such : {heard : List Heard} → Among heard (λ (one : Heard). ⊥) → ⊥
+none-such found = found .such
+
+-- in the log: the kind, the role, the four bytes in their order
+weighing-of : (load : Load) (w0 w1 w2 con : ℕ) → WeighingHeard Reply (weighing 3 (Short 1) load w0 w1 w2 con) e3 → (load ≡ Gross) × ((w0 ≡ 0x51) × (con ≡ 0x01))
+unfolding addressOf
+weighing-of load w0 w1 w2 con h = by-load load (h .load) (h .kind) (h .reply)
+  where
+    by-load : (load mine : Load) → weighing 3 (Short 1) load w0 w1 w2 con .kind ≡ kindOf mine → ReplyHeard e3 mine (Short 1) (w0 ∷ w1 ∷ w2 ∷ con ∷ [])
+        → (load ≡ Gross) × ((w0 ≡ 0x51) × (con ≡ 0x01))
+    by-load Gross Gross kind reply = (refl, (reply-first reply, reply-status reply))
+    by-load Net Gross kind reply = absurd (omega arith)
+    by-load load Net kind reply = absurd (reply-load reply)
+
+weighing-role : (load : Load) (w0 w1 w2 con : ℕ) → WeighingHeard Request (weighing 3 (Short 1) load w0 w1 w2 con) e3 → ⊥
+weighing-role load w0 w1 w2 con h = let was = h .as-reply in let clash : _≡_ {A = ℕ} 0 1 = cc in omega arith
+
+-- in the listing: a reading of 25.0 kg is not E3's
+abbrev other : Reading
+other = record { minus = false; number = 250; point = 1; bit6 = false; bit5 = false; settled = false; overload = false }
+
+listed-other : ListedHeard Gross (Short 1) other e3 → ⊥
+unfolding packedOf inRange
+listed-other h =
+    let packed = h .packed in
+    let first : 0x50 ≡ h .w0 = cc in
+    omega (arith, reply-first (h .reply))
+
+-- ---- what may be written
+
+sound-address : Sound (Weight Gross (Short 0) other) → ⊥
+unfolding legal
+sound-address h = let was = h .0 in let clash : _≡_ {A = ℕ} 0 1 = cc in omega arith
+
+sound-reading : Sound (Weight Gross (Short 1) (record { minus = false; number = 1_000_000; point = 1; bit6 = false; bit5 = false; settled = false; overload = false })) → ⊥
+unfolding inRange
+sound-reading h = let was = h .1 in let clash : _≡_ {A = ℕ} 0 1 = cc in omega arith
+
+sound-message : Sound (Message (Short 0) 0xA1) → ⊥
+unfolding legal
+sound-message h = let clash : _≡_ {A = ℕ} 0 1 = cc in omega arith
+
+sound-refused : Sound (entry-as.Refused RoomShort) → ⊥
+sound-refused h = let clash : _≡_ {A = ℕ} 0 1 = cc in omega arith
+
+-- ---- 6, 7, 8
+
+where-holds : ExactlyWhere (Unit {0}) ⊥ → ⊥
+where-holds h = h .0 tt
+
+where-fails : ExactlyWhere ⊥ (Unit {0}) → ⊥
+where-fails h = h .1 tt
+
+-- whatever the three tests say, one verdict is right
+unknown-first : (sized right : Bool) → FirstToFail false sized right Good Good → ⊥
+unknown-first sized right h = let was = h .unknown .1 refl in let clash : _≡_ {A = ℕ} 0 1 = cc in omega arith
+
+length-next : (right : Bool) → FirstToFail true false right Good Good → ⊥
+length-next right h = let was = h .wrong-length .1 (refl, refl) in let clash : _≡_ {A = ℕ} 0 1 = cc in omega arith
+
+field-next : FirstToFail true true false Good Good → ⊥
+field-next h = let was = h .outside .1 (refl, (refl, refl)) in let clash : _≡_ {A = ℕ} 0 1 = cc in omega arith
+
+then-after : (verdict : Verdict) → FirstToFail true true true (Refused RoomShort) verdict → verdict ≡ Refused RoomShort
+then-after verdict h = h .passed (refl, (refl, refl))
+
+not-unknown : (sized right : Bool) → FirstToFail true sized right Good (Refused CodeUnknown) → ⊥
+not-unknown sized right h = let was = h .unknown .0 refl in let clash : _≡_ {A = ℕ} 0 1 = cc in omega arith
+
+not-length : (right : Bool) → FirstToFail true true right Good (Refused LengthWrong) → ⊥
+not-length right h = let was = h .wrong-length .0 refl .1 in let clash : _≡_ {A = ℕ} 0 1 = cc in omega arith
+
+not-field : FirstToFail true true true Good (Refused FieldOutside) → ⊥
+not-field h = let was = h .outside .0 refl .1 .1 in let clash : _≡_ {A = ℕ} 0 1 = cc in omega arith

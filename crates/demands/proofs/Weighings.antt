@@ -1,0 +1,196 @@
+-- Shown: no weighing in the log and no weight in the listing, of any bytes from any state handed in, unless a reply C2 or C3 with its four bytes was heard.
+-- Why: a line hands out a body only where it is good, a record or an entry of a weight is made of such a body alone, and such a body is its parts again.
+use Prim.Native.Nat.{ℕ, _+_}
+use mathlib.Core.Path.{_≡_, _∙_, refl, sym, ap, subst}
+use mathlib.Core.List.{List, [], _∷_, _++_, map, List·Memᴰ, List·Memᴰ·head, List·Memᴰ·tail, List·Memᴰ·not-nil}
+use mathlib.Core.Logic.{_⊎_, inl, inr}
+use native.Mathlib.Omega.{arith}
+use lib.Dec.{T, ltb}
+use lib.Pow.{areBytes}
+use lib.ListN.{length, getD}
+use Rattle.refusal.specs.declared.Verdict.the-variants.{Good}
+use Rattle.refusal.proofs.Booleans.{T-left, T-right, T-both}
+use Rattle.room.proofs.ByteLists.{bytes-take}
+use Rattle.body.specs.declared.addresses.Address.{Address}
+use Rattle.body.specs.Body.{judged, codeIn, dataIn}
+use Rattle.body.specs.Addresses.{addressIn}
+use Rattle.body.proofs.Rebuilding.{rebuilt}
+use Rattle.line.specs.declared.reading.Reader.{Reader}
+use Rattle.line.specs.Listener.{Heard, nothing, frame, refused, Listener, Step, hear, events}
+use Rattle.line.specs.Readers.{view, keptOf}
+use Rattle.line.proofs.EveryStep.{every-step, every-told, every-event}
+use Rattle.line.proofs.Joined.{kept-front}
+use Rattle.weight.specs.declared.Reading.{Reading}
+use Rattle.codes.specs.declared.table.Role.{Role}
+use Rattle.codes.specs.declared.table.Role.the-variants.{Reply}
+use Rattle.codes.specs.declared.table.Load.{Load}
+use Rattle.meaning.specs.declared.meaning.What.{What}
+use Rattle.meaning.specs.declared.meaning.What.the-variants as says
+use Rattle.message.specs.declared.reading.Message.{Message}
+use Rattle.message.specs.declared.reading.Received.{Received}
+use Rattle.message.specs.declared.reading.Received.the-variants as received-as
+use Rattle.message.specs.Reading.{readMessage}
+use Rattle.records.specs.declared.records.Record.{Record}
+use Rattle.weighing_log.specs.declared.hearing.Noted.{Noted}
+use Rattle.weighing_log.specs.declared.hearing.Noted.the-variants as noted-as
+use Rattle.weighing_log.specs.Hearing.{notedHeard}
+use Rattle.weighing_log.specs.Heard.{codeOf}
+use Rattle.weighing_log.proofs.Heard.{refusal-kind}
+use Rattle.weighing_log.proofs.Weighings.{heard as weighing-heard, address-is, said-code, spelled, packed-back}
+use Rattle.entries.specs.declared.entries.Entry.the-variants.{Weight}
+use Rattle.entries.specs.Entries.{messageEntry, entryOf, entryHeard}
+use Rattle.demands.proofs.Entries.{Lists, a-weight, by-code, lists}
+use Rattle.demands.specs.Weighings.{ReplyHeard, Among, WeighingHeard, NotedAsHeard, noteThen, recordsFrom, LogAsHeard, ListedHeard, ListedAsHeard, ListingAsHeard}
+
+-- ---- what a line hands out
+
+-- a frame's body is good, and its numbers are bytes
+abbrev Whole : Heard → Type 0
+Whole nothing = Unit {0}
+Whole (frame wire kept body) = T (areBytes body) × (judged body ≡ Good)
+Whole (refused why wire kept) = Unit {0}
+
+abbrev Bytes : Listener → Type 0
+Bytes listener = T (areBytes (keptOf (listener .state)))
+
+whole : (listener : Listener) (byte : ℕ) → Bytes listener → Whole (hear listener byte .event)
+whole listener byte all = every-told Whole listener byte tt tt tt (λ good. (all, good)) (λ why bad. tt)
+
+one-more : (kept : List ℕ) (more : ℕ) → T (areBytes kept) → T (ltb more 256) → T (areBytes (kept ++ (more ∷ [])))
+one-more [] more all small = T-both (ltb more 256) _ small tt
+one-more (byte ∷ kept) more all small =
+    T-both (ltb byte 256) _ (T-left (ltb byte 256) (areBytes kept) all) (one-more kept more (T-right (ltb byte 256) (areBytes kept) all) small)
+
+stays : (listener : Listener) (byte : ℕ) → T (ltb byte 256) → Bytes listener → Bytes (hear listener byte .next)
+stays listener byte small all =
+    every-step (λ (s : Step). Bytes (s .next)) listener byte
+    (record {
+      empty = λ next none. rw none tt;
+      as-it-was = all;
+      keeps = λ more which fits. one-more (keptOf (listener .state)) more all (by-which more which);
+      full = λ _. tt;
+      broken = tt;
+      good = λ _. tt;
+      bad = λ _ _. tt;
+    })
+  where
+    by-which : (more : ℕ) → (more ≡ byte) ⊎ (more ≡ 0xFF) → T (ltb more 256)
+    by-which more (inl e) = rw e small
+    by-which more (inr e) = rw e tt
+
+handed : (reader : Reader) → T (areBytes (reader .body)) → Bytes (view reader)
+handed reader all = subst (λ (kept : List ℕ). T (areBytes kept)) (kept-front (reader .place) (reader .body)) (bytes-take (length (keptOf (view reader .state))) (reader .body) all)
+
+all-whole : (reader : Reader) → T (areBytes (reader .body)) → (bytes : List ℕ) → T (areBytes bytes) → (heard : Heard) → List·Memᴰ heard (events (view reader) bytes)
+    → Whole heard
+all-whole reader all bytes small =
+    every-event (λ (listener : Listener) (bytes : List ℕ). Bytes listener × T (areBytes bytes)) Whole
+    (λ listener byte bytes known. (
+      (stays listener byte (T-left (ltb byte 256) (areBytes bytes) (known .1)) (known .0), T-right (ltb byte 256) (areBytes bytes) (known .1)),
+      whole listener byte (known .0),
+    ))
+    (view reader) bytes (handed reader all, small)
+
+-- ---- one event
+
+-- a good body is its parts again
+reply : (wire kept : ℕ) (body : List ℕ) → Whole (frame wire kept body) → {load : Load} {address : Address} {four : List ℕ} → addressIn body ≡ address
+    → codeIn body ≡ codeOf load → dataIn body ≡ four → ReplyHeard (frame wire kept body) load address four
+reply wire kept body (all, good) is-address is-code is-data =
+    record { wire = wire; kept = kept; body = ap (frame wire kept) (sym (rebuilt body all good) ∙ rw (is-address, is-code, is-data)) }
+
+noted : (heard : Heard) → Whole heard → (time : ℕ) (role : Role) (item : Record) → notedHeard time role heard ≡ noted-as.Record item → (item .kind ≡ 3 → ⊥)
+    → WeighingHeard role item heard
+noted nothing is-whole time role item e weighing = let clash : _≡_ {A = ℕ} 0 1 = cc in absurd (omega arith)
+noted (frame wire kept body) is-whole time role item e weighing =
+    let was = weighing-heard role time body (is-whole .0) item e weighing in
+    record {
+      load = was .load;
+      kind = was .kind;
+      as-reply = was .reply;
+      reply = reply wire kept body is-whole (sym (was .address)) (was .code) (sym (was .weight));
+    }
+noted (refused why wire kept) is-whole time role item e weighing = absurd (weighing (refusal-kind time why item e))
+
+-- an entry is a weight only where a message says one
+module _ (load : Load) (address : Address) (reading : Reading) where
+  says-weight : (from : Address) (code : ℕ) (what : What) → messageEntry from code what ≡ Weight load address reading
+      → (what ≡ says.Weight load reading) × (from ≡ address)
+  says-weight from code what e = by-lists (lists from code what)
+    where
+      by-lists : Lists from code what → (what ≡ says.Weight load reading) × (from ≡ address)
+      by-lists (a-weight mine other said) = let same : Weight mine from other ≡ Weight load address reading = rw said at e in (cc, cc)
+      by-lists (by-code other) = (cc, cc)
+
+  read-listed : (wire kept : ℕ) (body : List ℕ) → Whole (frame wire kept body) → (received : Received) → readMessage Reply body ≡ received
+      → entryOf received ≡ Weight load address reading → ListedHeard load address reading (frame wire kept body)
+  read-listed wire kept body is-whole (received-as.Message message) was e =
+      let (said, from) = says-weight (message .address) (message .code) (message .what) e in
+      record {
+        w0 = getD (dataIn body) 0 0;
+        w1 = getD (dataIn body) 1 0;
+        w2 = getD (dataIn body) 2 0;
+        con = getD (dataIn body) 3 0;
+        packed = packed-back Reply body message was load reading said (is-whole .0);
+        reply =
+            reply wire kept body is-whole (sym (address-is Reply body message was) ∙ from) (said-code Reply body message was load reading said .1)
+            (spelled Reply body message was load reading said);
+      }
+  read-listed wire kept body is-whole (received-as.Refused why) was e = let clash : _≡_ {A = ℕ} 0 1 = cc in absurd (omega arith)
+
+  listed : (heard : Heard) → Whole heard → entryHeard heard ≡ Weight load address reading → ListedHeard load address reading heard
+  unfolding entryHeard
+  listed nothing is-whole e = let clash : _≡_ {A = ℕ} 0 1 = cc in absurd (omega arith)
+  listed (frame wire kept body) is-whole e = read-listed wire kept body is-whole (readMessage Reply body) refl e
+  listed (refused why wire kept) is-whole e = let clash : _≡_ {A = ℕ} 0 1 = cc in absurd (omega arith)
+
+pub noted-as-heard : NotedAsHeard
+noted-as-heard reader all byte = noted (hear (view reader) byte .event) (whole (view reader) byte (handed reader all))
+
+pub listed-as-heard : ListedAsHeard
+listed-as-heard reader all byte load address reading = listed load address reading (hear (view reader) byte .event) (whole (view reader) byte (handed reader all))
+
+-- ---- all events
+
+abbrev AllWhole : List Heard → Type 0
+AllWhole heard = (one : Heard) → List·Memᴰ one heard → Whole one
+
+one-on : {Such : Heard → Type 0} {heard : Heard} {later : List Heard} → Among later Such → Among (heard ∷ later) Such
+one-on found = record { event = found .event; among = List·Memᴰ·tail (found .among); such = found .such }
+
+module _ (time : ℕ → ℕ) (role : Role) (item : Record) (weighing : item .kind ≡ 3 → ⊥) where
+  by-note : (heard : Heard) (later : List Heard) (number : ℕ) → Whole heard → (records : List Record)
+      → (List·Memᴰ item records → Among later (WeighingHeard role item)) → (made : Noted) → notedHeard (time number) role heard ≡ made
+      → List·Memᴰ item (noteThen made records) → Among (heard ∷ later) (WeighingHeard role item)
+  by-note heard later number is-whole records behind noted-as.Nothing e among = one-on (behind among)
+  by-note heard later number is-whole records behind (noted-as.Record other) e (List·Memᴰ·head same) =
+      record {
+        event = heard;
+        among = List·Memᴰ·head refl;
+        such = noted heard is-whole (time number) role item (e ∙ ap noted-as.Record (sym same)) weighing;
+      }
+  by-note heard later number is-whole records behind (noted-as.Record other) e (List·Memᴰ·tail among) = one-on (behind among)
+  by-note heard later number is-whole records behind (noted-as.Refused why) e among = one-on (behind among)
+
+  in-log : (heard : List Heard) (number : ℕ) → AllWhole heard → List·Memᴰ item (recordsFrom time role number heard) → Among heard (WeighingHeard role item)
+  unfolding recordsFrom
+  in-log [] number all among = absurd (List·Memᴰ·not-nil among)
+  in-log (heard ∷ later) number all among =
+      by-note heard later number (all heard (List·Memᴰ·head refl)) (recordsFrom time role (number + 1) later)
+      (in-log later (number + 1) (λ one behind. all one (List·Memᴰ·tail behind))) (notedHeard (time number) role heard) refl among
+
+pub log-as-heard : LogAsHeard
+log-as-heard reader all bytes small time role item among weighing =
+    in-log time role item weighing (events (view reader) bytes) 1 (all-whole reader all bytes small) among
+
+in-listing : (load : Load) (address : Address) (reading : Reading) (heard : List Heard) → AllWhole heard
+    → List·Memᴰ (Weight load address reading) (map entryHeard heard) → Among heard (ListedHeard load address reading)
+in-listing load address reading [] all among = absurd (List·Memᴰ·not-nil among)
+in-listing load address reading (heard ∷ later) all (List·Memᴰ·head same) =
+    record { event = heard; among = List·Memᴰ·head refl; such = listed load address reading heard (all heard (List·Memᴰ·head refl)) (sym same) }
+in-listing load address reading (heard ∷ later) all (List·Memᴰ·tail among) =
+    one-on (in-listing load address reading later (λ one behind. all one (List·Memᴰ·tail behind)) among)
+
+pub listing-as-heard : ListingAsHeard
+listing-as-heard reader all bytes small load address reading =
+    in-listing load address reading (events (view reader) bytes) (all-whole reader all bytes small)

@@ -1,0 +1,130 @@
+-- Shown: for each event of a line, its line and its record are written wherever there is room: neither 8 nor 11 comes from the line.
+-- Why: what was read has a legal address and a reading within its ranges, a record that is made is good, and a line refuses by 1 to 8.
+use Prim.Native.Nat.{ℕ, _≤_}
+use mathlib.Core.Path.{_≡_, refl}
+use mathlib.Core.Bool.{Bool, true, false, cond}
+use mathlib.Core.List.{List}
+use native.Mathlib.Omega.{arith}
+use borrow.Author.Tests.{le-ltb}
+use lib.ListN.{length}
+use Rattle.refusal.specs.declared.Refusal.{Refusal}
+use Rattle.refusal.specs.declared.Refusal.the-variants.{FieldOutside}
+use Rattle.refusal.specs.declared.Verdict.the-variants.{Good}
+use Rattle.room.specs.Writing.{wrote}
+use Rattle.line.specs.Listener.{Heard, nothing, frame, refused, hear}
+use Rattle.weight.specs.declared.Reading.{Reading}
+use Rattle.weight.specs.declared.Read.the-variants as read-as
+use Rattle.weight.specs.Digits.{allDecimal, digitsOf}
+use Rattle.weight.specs.Status.{readingOf}
+use Rattle.weight.specs.Bytes.{inRange, readOf, packedOf}
+use Rattle.weight.proofs.RoundTrip.{legal-of-read}
+use Rattle.codes.specs.declared.table.Role.{Role}
+use Rattle.codes.specs.declared.table.Role.the-variants.{Reply}
+use Rattle.codes.specs.declared.table.Load.{Load}
+use Rattle.meaning.specs.declared.meaning.What.the-variants as says
+use Rattle.meaning.specs.Fields.{readIn}
+use Rattle.message.specs.declared.reading.Message.{Message}
+use Rattle.message.specs.declared.reading.Received.{Received}
+use Rattle.message.specs.declared.reading.Received.the-variants as received-as
+use Rattle.message.specs.Reading.{readMessage}
+use Rattle.records.specs.declared.records.Record.{Record}
+use Rattle.records.specs.Layout.{bytesOfRecord}
+use Rattle.records.specs.Writing.{judgedRecord, writtenRecord}
+use Rattle.weighing_log.specs.declared.hearing.Noted.the-variants as noted-as
+use Rattle.weighing_log.specs.Hearing.{recordOf, notedHeard}
+use Rattle.weighing_log.proofs.Others.{Saying, a-weight, no-weight, saying}
+use Rattle.weighing_log.proofs.Weighings.{address-legal, row-is}
+use Rattle.entries.specs.declared.entries.Entry.{Entry}
+use Rattle.entries.specs.declared.entries.Entry.the-variants as entry-as
+use Rattle.entries.specs.Entries.{entryOf, entryHeard, sound}
+use Rattle.listing.specs.Lines.{lineOf}
+use Rattle.listing.specs.Writing.{writtenLine}
+use Rattle.demands.proofs.Entries.{Lists, a-weight as lists-weight, by-code, lists}
+use Rattle.demands.proofs.Logs.{noted-good}
+use Rattle.demands.proofs.Noted.{Met, Told, is-noted, line-told}
+use Rattle.message.proofs.Refusals.{message-refuses}
+use Rattle.demands.specs.WrittenDown.{Sound, AlwaysWritten}
+
+-- ---- a message that was read
+
+-- a reading that was read lies within its ranges
+read-legal : (w0 w1 w2 con : ℕ) (reading : Reading) → readOf w0 w1 w2 con ≡ read-as.Good reading → inRange reading ≡ true
+unfolding readOf
+read-legal w0 w1 w2 con reading = by-decimal (allDecimal w0 w1 w2) refl
+  where
+    by-decimal : (decimal : Bool) → allDecimal w0 w1 w2 ≡ decimal → cond decimal (read-as.Good (readingOf (digitsOf w0 w1 w2) con)) (read-as.Refused FieldOutside) ≡ read-as.Good reading
+        → inRange reading ≡ true
+    by-decimal true good e = let same : reading ≡ readingOf (digitsOf w0 w1 w2) con = cc in rw same (legal-of-read w0 w1 w2 con good)
+    by-decimal false good e = cc
+
+module _ (role : Role) (body : List ℕ) (message : Message) (was : readMessage role body ≡ received-as.Message message) where
+  said-legal : (load : Load) (reading : Reading) → message .what ≡ says.Weight load reading → inRange reading ≡ true
+  unfolding readIn
+  said-legal load reading said = read-legal _ _ _ _ reading (row-is role body message was load reading said .1)
+
+  message-sound : Sound (entryOf (received-as.Message message))
+  message-sound = by-lists (lists (message .address) (message .code) (message .what))
+    where
+      by-lists : Lists (message .address) (message .code) (message .what) → Sound (entryOf (received-as.Message message))
+      by-lists (lists-weight load reading said) = rw said (address-legal role body message was, said-legal load reading said)
+      by-lists (by-code is) = rw is (address-legal role body message was)
+
+  message-noted : (time : ℕ) (why : Refusal) → recordOf time (received-as.Message message) ≡ noted-as.Refused why → ⊥
+  unfolding recordOf packedOf
+  message-noted time why e = by-saying (saying (message .what))
+    where
+      by-saying : Saying (message .what) → ⊥
+      by-saying (a-weight load reading said) =
+          let made = rw (said, said-legal load reading said, address-legal role body message was) at e in
+          let clash : _≡_ {A = ℕ} 0 1 = cc in
+          omega arith
+      by-saying (no-weight none) = let nothing = none time (message .address) in let clash : _≡_ {A = ℕ} 0 1 = cc in omega arith
+
+-- ---- a body, and an event
+
+body-sound : (body : List ℕ) (received : Received) → readMessage Reply body ≡ received → Sound (entryOf received)
+body-sound body (received-as.Message message) was = message-sound Reply body message was
+body-sound body (received-as.Refused why) was = message-refuses Met refl refl refl refl refl refl refl Reply body why was
+
+met-noted : (time : ℕ) (met why : Refusal) → Met met → recordOf time (received-as.Refused met) ≡ noted-as.Refused why → ⊥
+met-noted time met why is-met e = let made = is-noted time met is-met in let clash : _≡_ {A = ℕ} 0 1 = cc in omega arith
+
+body-noted : (role : Role) (body : List ℕ) (received : Received) → readMessage role body ≡ received → (time : ℕ) (why : Refusal)
+    → recordOf time received ≡ noted-as.Refused why → ⊥
+body-noted role body (received-as.Message message) was time why e = message-noted role body message was time why e
+body-noted role body (received-as.Refused met) was time why e = met-noted time met why (message-refuses Met refl refl refl refl refl refl refl role body met was) e
+
+event-sound : (heard : Heard) → Told heard → Sound (entryHeard heard)
+unfolding entryHeard
+event-sound nothing met = tt
+event-sound (frame wire kept body) met = body-sound body (readMessage Reply body) refl
+event-sound (refused why wire kept) met = met
+
+event-noted : (heard : Heard) → Told heard → (time : ℕ) (role : Role) (why : Refusal) → notedHeard time role heard ≡ noted-as.Refused why → ⊥
+event-noted nothing met time role why e = let clash : _≡_ {A = ℕ} 0 1 = cc in omega arith
+event-noted (frame wire kept body) met time role why e = body-noted role body (readMessage role body) refl time why e
+event-noted (refused given wire kept) met time role why e = met-noted time given why met e
+
+-- what is sound is refused by 9 alone
+line-sound : (entry : Entry) → Sound entry → sound entry ≡ true
+line-sound entry-as.Nothing is = refl
+line-sound (entry-as.Weight load address reading) is = is .1
+line-sound (entry-as.Message address code) is = refl
+line-sound (entry-as.Refused why) is = is
+
+line-written : (entry : Entry) → Sound entry → (number : ℕ) (room : List ℕ) → length (lineOf number entry) ≤ length room
+    → writtenLine number entry room ≡ wrote Good (lineOf number entry) room
+unfolding writtenLine
+line-written entry is number room fits = rw (line-sound entry is, le-ltb (length room) (length (lineOf number entry)) fits)
+
+record-written : (heard : Heard) (time : ℕ) (role : Role) (item : Record) (room : List ℕ) → notedHeard time role heard ≡ noted-as.Record item → 20 ≤ length room
+    → writtenRecord item room ≡ wrote Good (bytesOfRecord item) room
+unfolding writtenRecord judgedRecord
+record-written heard time role item room e enough = rw (noted-good time role heard item e .0, le-ltb (length room) 20 enough)
+
+pub always-written : AlwaysWritten
+always-written listener byte =
+    let heard = hear listener byte .event in
+    let met = line-told listener byte in
+    let is = event-sound heard met in
+    record { sound = is; line = line-written (entryHeard heard) is; noted = event-noted heard met; item = record-written heard }

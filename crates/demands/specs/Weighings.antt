@@ -1,0 +1,100 @@
+-- "A weight that wasn't heard must never look like a weight of nothing." No weighing stands in the log, and no weight in the listing, unless a
+-- reply C2 or C3 with exactly its four bytes was heard, from its address. (That what was refused stands as refused: Noted.) From every state
+-- handed in; what its array holds and what is taken are bytes.
+use Prim.Native.Nat.{ℕ, _+_}
+use mathlib.Core.Path.{_≡_}
+use mathlib.Core.List.{List, [], _∷_, map, List·Memᴰ}
+use lib.Dec.{T}
+use lib.Pow.{areBytes}
+use Rattle.body.specs.declared.addresses.Address.{Address}
+use Rattle.body.specs.Body.{bodyOf}
+use Rattle.line.specs.declared.reading.Reader.{Reader}
+use Rattle.line.specs.Listener.{Heard, frame, hear, events}
+use Rattle.line.specs.Readers.{view}
+use Rattle.weight.specs.declared.Reading.{Reading}
+use Rattle.weight.specs.declared.Packed.the-variants as packed-as
+use Rattle.weight.specs.Bytes.{packedOf}
+use Rattle.codes.specs.declared.table.Role.{Role}
+use Rattle.codes.specs.declared.table.Role.the-variants.{Reply}
+use Rattle.codes.specs.declared.table.Load.{Load}
+use Rattle.records.specs.declared.records.Record.{Record}
+use Rattle.records.specs.Records.{kindOf, metKind, addressOf}
+use Rattle.weighing_log.specs.declared.hearing.Noted.{Noted}
+use Rattle.weighing_log.specs.declared.hearing.Noted.the-variants as noted-as
+use Rattle.weighing_log.specs.Hearing.{notedHeard}
+use Rattle.weighing_log.specs.Heard.{codeOf}
+use Rattle.entries.specs.declared.entries.Entry.the-variants.{Weight}
+use Rattle.entries.specs.Entries.{entryHeard}
+
+-- "C2 net, C3 gross", "W0 W1 W2 CON": a frame was heard whose body is an address, the code, exactly these bytes, and their check
+pub record ReplyHeard (heard : Heard) (load : Load) (address : Address) (four : List ℕ) : Type 0 where
+  pub wire : ℕ
+  pub kept : ℕ
+  pub body : heard ≡ frame wire kept (bodyOf address (codeOf load) four)
+
+-- there is such an event among those heard
+pub record Among (heard : List Heard) (Such : Heard → Type 0) : Type 0 where
+  pub event : Heard
+  pub among : List·Memᴰ event heard
+  pub such : Such event
+
+-- ---- the log
+
+-- the event that a weighing in the log was heard in: "Kind 1 is a gross reply, 2 a net reply: address as on the wire", "status is CON"
+pub record WeighingHeard (role : Role) (item : Record) (heard : Heard) : Type 0 where
+  pub load : Load
+  pub kind : item .kind ≡ kindOf load
+  pub as-reply : role ≡ Reply
+  pub reply : ReplyHeard heard load (addressOf item) (item .w0 ∷ item .w1 ∷ item .w2 ∷ item .status ∷ [])
+
+-- each event: whatever record it makes that is not a refusal's
+abbrev pub NotedAsHeard : Type 0
+NotedAsHeard =
+    (reader : Reader) → T (areBytes (reader .body)) → (byte time : ℕ) (role : Role) (item : Record)
+    → notedHeard time role (hear (view reader) byte .event) ≡ noted-as.Record item → (item .kind ≡ metKind → ⊥)
+    → WeighingHeard role item (hear (view reader) byte .event)
+
+-- a record, where there is one, ahead of those behind it
+abbrev pub noteThen : Noted → List Record → List Record
+noteThen noted-as.Nothing later = later
+noteThen (noted-as.Record item) later = item ∷ later
+noteThen (noted-as.Refused why) later = later
+
+-- the records that a line's events make, in order; the caller gives the time of each event, by its number from 1
+unfoldable pub recordsFrom : (ℕ → ℕ) → Role → ℕ → List Heard → List Record
+recordsFrom time role number [] = []
+recordsFrom time role number (heard ∷ later) = noteThen (notedHeard (time number) role heard) (recordsFrom time role (number + 1) later)
+
+abbrev pub recordsHeard : (ℕ → ℕ) → Role → List Heard → List Record
+recordsHeard time role heard = recordsFrom time role 1 heard
+
+-- the whole log that a line makes
+abbrev pub LogAsHeard : Type 0
+LogAsHeard =
+    (reader : Reader) → T (areBytes (reader .body)) → (bytes : List ℕ) → T (areBytes bytes) → (time : ℕ → ℕ) (role : Role) (item : Record)
+    → List·Memᴰ item (recordsHeard time role (events (view reader) bytes)) → (item .kind ≡ metKind → ⊥)
+    → Among (events (view reader) bytes) (WeighingHeard role item)
+
+-- ---- the listing
+
+-- the event that a weight in the listing was heard in: the reading's four bytes
+pub record ListedHeard (load : Load) (address : Address) (reading : Reading) (heard : Heard) : Type 0 where
+  pub w0 : ℕ
+  pub w1 : ℕ
+  pub w2 : ℕ
+  pub con : ℕ
+  pub packed : packedOf reading ≡ packed-as.Bytes w0 w1 w2 con
+  pub reply : ReplyHeard heard load address (w0 ∷ w1 ∷ w2 ∷ con ∷ [])
+
+-- each event
+abbrev pub ListedAsHeard : Type 0
+ListedAsHeard =
+    (reader : Reader) → T (areBytes (reader .body)) → (byte : ℕ) (load : Load) (address : Address) (reading : Reading)
+    → entryHeard (hear (view reader) byte .event) ≡ Weight load address reading → ListedHeard load address reading (hear (view reader) byte .event)
+
+-- the whole listing of what a line hears: the entries that it has lines of
+abbrev pub ListingAsHeard : Type 0
+ListingAsHeard =
+    (reader : Reader) → T (areBytes (reader .body)) → (bytes : List ℕ) → T (areBytes bytes) → (load : Load) (address : Address) (reading : Reading)
+    → List·Memᴰ (Weight load address reading) (map entryHeard (events (view reader) bytes))
+    → Among (events (view reader) bytes) (ListedHeard load address reading)

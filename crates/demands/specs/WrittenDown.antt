@@ -1,0 +1,47 @@
+-- What a line gives can always be written down, in the log and in the listing: no weight that was heard is lost behind a refusal of the writer.
+-- "A reading handed in with a number above 999,999 or a point above 7 is refusal 8 wherever it is used"; "Writing a record judges 11, then 9."
+-- From the line neither 8 nor 11 comes: for each event that a byte gives, in whatever state.
+use Prim.Native.Nat.{ℕ, _≤_}
+use mathlib.Core.Path.{_≡_}
+use mathlib.Core.Bool.{true}
+use mathlib.Core.List.{List}
+use lib.ListN.{length}
+use Rattle.refusal.specs.declared.Refusal.{Refusal}
+use Rattle.refusal.specs.declared.Verdict.the-variants.{Good}
+use Rattle.refusal.specs.Numbers.{numberOf, lineStatus}
+use Rattle.room.specs.Writing.{wrote}
+use Rattle.body.specs.Addresses.{legal}
+use Rattle.line.specs.Listener.{Heard, Listener, hear}
+use Rattle.weight.specs.Bytes.{inRange}
+use Rattle.codes.specs.declared.table.Role.{Role}
+use Rattle.records.specs.declared.records.Record.{Record}
+use Rattle.records.specs.Layout.{recordBytes, bytesOfRecord}
+use Rattle.records.specs.Writing.{writtenRecord}
+use Rattle.weighing_log.specs.declared.hearing.Noted.the-variants as noted-as
+use Rattle.weighing_log.specs.Hearing.{notedHeard}
+use Rattle.entries.specs.declared.entries.Entry.{Entry}
+use Rattle.entries.specs.declared.entries.Entry.the-variants.{Nothing, Weight, Message, Refused}
+use Rattle.entries.specs.Entries.{entryHeard}
+use Rattle.listing.specs.Lines.{lineOf}
+use Rattle.listing.specs.Writing.{writtenLine}
+
+-- a legal address, a reading within its ranges, a refusal of 1 to 8
+abbrev pub Sound : Entry → Type 0
+Sound Nothing = Unit {0}
+Sound (Weight load address reading) = (legal address ≡ true) × (inRange reading ≡ true)
+Sound (Message address code) = legal address ≡ true
+Sound (Refused why) = lineStatus (numberOf why) ≡ true
+
+pub record CanBeWritten (heard : Heard) : Type 0 where
+  pub sound : Sound (entryHeard heard)
+  -- its line, wherever the room is long enough for it
+  pub line : (number : ℕ) (room : List ℕ) → length (lineOf number (entryHeard heard)) ≤ length room
+      → writtenLine number (entryHeard heard) room ≡ wrote Good (lineOf number (entryHeard heard)) room
+  -- noting it is never refused
+  pub noted : (time : ℕ) (role : Role) (why : Refusal) → notedHeard time role heard ≡ noted-as.Refused why → ⊥
+  -- its record, wherever the room has 20 bytes
+  pub item : (time : ℕ) (role : Role) (item : Record) (room : List ℕ) → notedHeard time role heard ≡ noted-as.Record item → recordBytes ≤ length room
+      → writtenRecord item room ≡ wrote Good (bytesOfRecord item) room
+
+abbrev pub AlwaysWritten : Type 0
+AlwaysWritten = (listener : Listener) (byte : ℕ) → CanBeWritten (hear listener byte .event)

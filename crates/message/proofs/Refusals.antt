@@ -1,0 +1,75 @@
+-- Shown: what holds of 1, 4 and 5 holds of every refusal at a body's end, and so with 2 for a lent body, and with 6, 7, 8 for a message.
+-- Why: each test refuses with its own number, and the first that holds decides.
+use Prim.Native.Nat.{ℕ}
+use mathlib.Core.Path.{_≡_, _∙_, refl, sym, subst}
+use mathlib.Core.Bool.{Bool, true, false, not}
+use mathlib.Core.List.{List}
+use lib.Dec.{ltb, eqb}
+use lib.ListN.{length}
+use Rattle.refusal.specs.declared.Refusal.{Refusal}
+use Rattle.refusal.specs.declared.Refusal.the-variants.{BodyShort, BodyLong, CheckWrong, AddressIllegal, CodeUnknown, LengthWrong, FieldOutside}
+use Rattle.refusal.specs.declared.Verdict.{Verdict}
+use Rattle.refusal.specs.declared.Verdict.the-variants.{Good, Refused}
+use Rattle.refusal.specs.Numbers.{numberOf, lineStatus, refuseIf}
+use Rattle.check_byte.specs.Register.{received}
+use Rattle.body.specs.Addresses.{legal, addressIn}
+use Rattle.body.specs.Body.{longest, short, judged, judgedLent, codeIn, dataIn}
+use Rattle.codes.specs.declared.table.Role.{Role}
+use Rattle.codes.specs.Table.{rowOf, inTable}
+use Rattle.codes.specs.Lengths.{lengthOf, lengthRight}
+use Rattle.meaning.specs.Fields.{fieldsRight}
+use Rattle.meaning.specs.Judging.{judgedCode, judgedThen, judgedData, judgedMessage}
+use Rattle.message.specs.declared.reading.Message.{Message}
+use Rattle.message.specs.declared.reading.Received.the-variants as received-as
+use Rattle.message.specs.Reading.{receiving, judgedBody, readMessage}
+use Rattle.message.proofs.Checked.{in-order, read-so}
+
+receiving-refused : (verdict : Verdict) (message : Message) (why : Refusal) → receiving verdict message ≡ received-as.Refused why → verdict ≡ Refused why
+receiving-refused Good message why e = cc
+receiving-refused (Refused other) message why e = cc
+
+module _ (holds : Refusal → Type 0) where
+  -- what a verdict refuses with
+  OfRefusal : Verdict → Type 0
+  OfRefusal Good = Unit {0}
+  OfRefusal (Refused why) = holds why
+
+  refusing : (test : Bool) (why : Refusal) (after : Verdict) → holds why → OfRefusal after → OfRefusal (refuseIf test why after)
+  unfolding OfRefusal
+  refusing true why after first rest = first
+  refusing false why after first rest = rest
+
+  one-then : (first second : Verdict) → OfRefusal first → OfRefusal second → OfRefusal (judgedThen first second)
+  unfolding OfRefusal
+  one-then Good second p q = q
+  one-then (Refused why) second p q = p
+
+  module _ (one : holds BodyShort) (four : holds CheckWrong) (five : holds AddressIllegal) where
+    at-end : (body : List ℕ) → OfRefusal (judged body)
+    unfolding judged OfRefusal
+    at-end body = refusing (short body) _ _ one (refusing (not (eqb (received body) 0)) _ _ four (refusing (not (legal (addressIn body))) _ _ five tt))
+
+    pub end-refuses : (body : List ℕ) (why : Refusal) → judged body ≡ Refused why → holds why
+    unfolding OfRefusal
+    end-refuses body why e = subst OfRefusal e (at-end body)
+
+    module _ (two : holds BodyLong) (six : holds CodeUnknown) (seven : holds LengthWrong) (eight : holds FieldOutside) where
+      of-message : (role : Role) (code : ℕ) (data′ : List ℕ) → OfRefusal (judgedMessage role code data′)
+      unfolding judgedMessage judgedCode judgedData OfRefusal
+      of-message role code data′ =
+          one-then (judgedCode role code) _ (refusing (not (inTable (rowOf role code))) _ _ six tt)
+          (refusing (not (lengthRight (lengthOf (rowOf role code)) data′)) _ _ seven (refusing (not (fieldsRight (rowOf role code) data′)) _ _ eight tt))
+
+      of-body : (role : Role) (body : List ℕ) → OfRefusal (judgedBody role body)
+      unfolding judgedLent judged
+      of-body role body =
+          rw (in-order role body)
+          (one-then (judgedLent body) _ (refusing (ltb longest (length body)) _ _ two (at-end body)) (of-message role (codeIn body) (dataIn body)))
+
+      pub message-refuses : (role : Role) (body : List ℕ) (why : Refusal) → readMessage role body ≡ received-as.Refused why → holds why
+      unfolding OfRefusal
+      message-refuses role body why e = subst OfRefusal (receiving-refused (judgedBody role body) _ why (sym (read-so role body) ∙ e)) (of-body role body)
+
+-- so each of them is a refusal that a line can meet
+pub message-met : (role : Role) (body : List ℕ) (why : Refusal) → readMessage role body ≡ received-as.Refused why → lineStatus (numberOf why) ≡ true
+message-met = message-refuses (λ (why : Refusal). lineStatus (numberOf why) ≡ true) refl refl refl refl refl refl refl
