@@ -10,3 +10,4 @@ pub mod Messages
 pub mod Noted
 pub mod Piece
 pub mod Reading
+pub mod Stops
