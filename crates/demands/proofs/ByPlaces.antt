@@ -30,14 +30,13 @@ pub data Closed : List ℕ → Type 0 where
   none : Closed []
   ff : (front : List ℕ) → Closed (front ++ (0xFF ∷ []))
 
-run-closes : (front : List ℕ) (count : ℕ) → 1 ≤ count → Closed (front ++ replicate count 0xFF)
-run-closes front zero some = absurd (omega arith)
-run-closes front (suc zero) some = ff front
-run-closes front (suc (suc count)) some = rw append-assoc at (run-closes (front ++ (0xFF ∷ [])) (suc count) (omega arith))
-
 still-closed : {front : List ℕ} → Closed front → (count : ℕ) → Closed (front ++ replicate count 0xFF)
 still-closed closed zero = rw append-nil closed
-still-closed {front} closed (suc count) = run-closes front (suc count) (omega arith)
+still-closed {front} closed (suc count) = rw append-assoc at (still-closed (ff front) count)
+
+run-closes : (front : List ℕ) (count : ℕ) → 1 ≤ count → Closed (front ++ replicate count 0xFF)
+run-closes front zero some = absurd (omega arith)
+run-closes front (suc count) some = rw append-assoc at (still-closed (ff front) count)
 
 -- of bytes that end in an FF one went by, exactly if one joined before their end
 ends-in-ff : (bytes : List ℕ) → anyFF (bytes ++ (0xFF ∷ [])) ≡ true

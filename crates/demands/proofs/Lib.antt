@@ -6,8 +6,10 @@ pub mod Counts
 pub mod Cuts
 pub mod Demand3
 pub mod Examples
+pub mod Loops
 pub mod Messages
 pub mod Noted
 pub mod Piece
 pub mod Reading
+pub mod Shown
 pub mod Stops
