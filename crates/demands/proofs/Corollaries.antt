@@ -12,7 +12,7 @@ use lib.Dec.{lit≤}
 use Rattle.frame.specs.Stuffing.{stuffed, countFF, framed, needed}
 use Rattle.frame.proofs.Stuffing.{stuffed-length, count-most}
 use Rattle.body.specs.Addresses.{addressIn}
-use Rattle.body.specs.Body.{codeIn, dataIn}
+use Rattle.body.specs.Body.{judged, codeIn, dataIn}
 use Rattle.body.proofs.Rebuilding.{good-address, made-good, rebuilt, lent-at-most, lent-good}
 use Rattle.line.specs.Listener.{Heard, nothing, frame, refused, delimited, fresh, events}
 use Rattle.demands.specs.Wire.{Sent, Shared, AllShared, onWire, wireOf, anyFF, heardOf, anyRefused, framesOf, NoRefusal, GoodBodies, FromStart, OneList, OfFrameRule, ReadsBack}
@@ -73,7 +73,7 @@ one-list list other shared others same =
 -- the verdict is the user's
 pub good-bodies : GoodBodies
 good-bodies body = record {
-  each = λ r. rw (r .runs) (made-good (r .code) (r .data′) (r .address) (r .is-legal));
+  each = λ r. ap judged (r .runs) ∙ made-good (r .code) (r .data′) (r .address) (r .is-legal);
   no-other = λ all good. record {
     address = addressIn body;
     code = codeIn body;

@@ -8,7 +8,7 @@ use native.Mathlib.Omega.{arith}
 use native.Mathlib.Decide.{decLe}
 use native.Mathlib.Nat.{lt-of-not-le, mod-add-mod}
 use borrow.Author.Tests.{eqb-true}
-use lib.ListN.{length, take, drop, replicate, length-append, take-append-drop, drop-of-length-le}
+use lib.ListN.{length, take, drop, length-append, take-append-drop, drop-of-length-le}
 use lib.Seq.{slice, drop-append-le}
 use lib.Dec.{eqb}
 use Rattle.frame.specs.Stuffing.{stuffed}
