@@ -8,7 +8,8 @@ use lib.ListN.{length, drop, replicate, length-append, length-replicate}
 use lib.Seq.{drop-nil}
 use Rattle.frame.specs.Stuffing.{stuffed}
 use Rattle.line.specs.Listener.{Heard, frame, State, delimited, events}
-use Rattle.demands.specs.Wire.{Sent, Shared, AllShared, onWire, wireOf, framesOf, AtRest}
+use Rattle.demands.specs.Stops.{AtRest}
+use Rattle.demands.specs.Wire.{Sent, Shared, AllShared, onWire, wireOf, framesOf}
 use Rattle.demands.proofs.Bytes.{clock, at, delimited-run}
 use Rattle.demands.proofs.Piece.{stuff, whole}
 

@@ -13,7 +13,7 @@ use lib.Seq.{slice, drop-append-le}
 use lib.Dec.{eqb}
 use Rattle.frame.specs.Stuffing.{stuffed}
 use Rattle.line.specs.Listener.{State, seeking, delimited, inside, held, Heard, Listener, tick, hear, events, after}
-use Rattle.demands.specs.Wire.{AtRest, unended, SilentInside, StopsInside}
+use Rattle.demands.specs.Stops.{AtRest, unended, SilentInside, StopsInside}
 use Rattle.demands.proofs.Bytes.{at, seeking-ff, delimited-ff, delimited-fe, delimited-other, inside-ff}
 use Rattle.demands.proofs.Piece.{Stuffed, none, ff, other, stuff, inside-body, seeking-late}
 use Rattle.demands.proofs.AllHeard.{Quiet}

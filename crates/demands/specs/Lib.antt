@@ -4,4 +4,5 @@ pub mod Messages
 pub mod Noted
 pub mod Reading
 pub mod Shown
+pub mod Stops
 pub mod Wire

@@ -7,7 +7,8 @@ use Rattle.refusal.specs.declared.Refusal.the-variants.{CheckWrong}
 use Rattle.line.specs.declared.places.Phase.the-variants.{Inside}
 use Rattle.line.specs.Listener.{nothing, frame, refused, fresh, events, after}
 use Rattle.line.specs.Readers.{freshReader}
-use Rattle.demands.specs.Wire.{Sent, Proper, AllProper, wireOf, anyFF, heardOf, anyRefused, framesOf, unended, overBlocks}
+use Rattle.demands.specs.Wire.{Sent, Proper, AllProper, wireOf, anyFF, heardOf, anyRefused, framesOf, overBlocks}
+use Rattle.demands.specs.Stops.{unended}
 use Rattle.demands.specs.Reading.{afterBytes, heardBy}
 
 -- E1's body, and E5's with an FF in it

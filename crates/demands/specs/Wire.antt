@@ -6,7 +6,7 @@ use Prim.Native.Nat.{ℕ, _+_, _-_, _%_, _^_, _≤_}
 use mathlib.Core.Path.{_≡_}
 use mathlib.Core.Bool.{Bool, true, false, cond, _||_}
 use mathlib.Core.List.{List, [], _∷_, _++_, map, flatten}
-use lib.ListN.{length, take, drop, replicate}
+use lib.ListN.{length, drop, replicate}
 use lib.Seq.{slice}
 use lib.Dec.{T, eqb}
 use lib.Pow.{areBytes}
@@ -15,7 +15,7 @@ use Rattle.body.specs.declared.addresses.Address.{Address}
 use Rattle.body.specs.Addresses.{legal}
 use Rattle.body.specs.Body.{longest, bodyOf, judged, judgedLent}
 use Rattle.frame.specs.Stuffing.{stuffed, framed, needed}
-use Rattle.line.specs.Listener.{State, seeking, delimited, inside, held, Heard, nothing, frame, refused, Listener, fresh, events, after}
+use Rattle.line.specs.Listener.{Heard, nothing, frame, refused, Listener, fresh, events, after}
 
 -- ---- the wire
 
@@ -138,32 +138,6 @@ OfFrameRule = (body : List ℕ) → framed body ≡ onWire (record { ahead = 1; 
 -- what the frame rule writes reads back as that one frame; all the bytes written are counted
 abbrev pub ReadsBack : Type 0
 ReadsBack = (body : List ℕ) → judgedLent body ≡ Good → events fresh (framed body) ≡ frame (needed body) (length body) body ∷ []
-
--- ---- a capture that stops
-
--- a listener who is between two bodies
-abbrev pub AtRest : State → Type 0
-AtRest seeking = Unit {0}
-AtRest delimited = Unit {0}
-AtRest (inside kept) = ⊥
-AtRest (held kept) = ⊥
-
--- some FFs, a body, and the first FF behind it: whatever is cut off of this, the capture stopped ahead of the second FF
-abbrev pub unended : ℕ → List ℕ → List ℕ
-unended ahead body = replicate ahead 0xFF ++ (stuffed body ++ (0xFF ∷ []))
-
--- "A capture that stops inside a body gives no event for it": good or bad, in at most 255 bytes, joined and cut off anywhere
-abbrev pub SilentInside : Type 0
-SilentInside =
-    (listener : Listener) → AtRest (listener .state) → (ahead : ℕ) (body : List ℕ) → length body ≤ longest → (joined stop : ℕ)
-    → events listener (slice joined stop (unended ahead body)) ≡ []
-
--- and the frames ahead of that body are heard as ever
-abbrev pub StopsInside : Type 0
-StopsInside =
-    (list : List Sent) → AllShared list → (ahead : ℕ) (body : List ℕ) → length body ≤ longest → (joined stop : ℕ)
-    → let bytes = wireOf list ++ take stop (unended ahead body) in
-    events fresh (drop joined bytes) ≡ heardOf bytes joined 0 list
 
 -- ---- the counts
 
