@@ -20,6 +20,8 @@ frames = record {
     record { shared = record { good = refl; most = lit≤ tt; behind = lit≤ tt }; ahead = lit≤ tt },
     (record { shared = record { good = refl; most = lit≤ tt; behind = lit≤ tt }; ahead = lit≤ tt }, tt),
   );
+  first = lit≤ tt;
+  no-first = tt;
   none-ahead = λ p. omega (arith, p .ahead);
   laid = refl;
   cut-off = refl;

@@ -7,7 +7,7 @@ use Rattle.refusal.specs.declared.Refusal.the-variants.{CheckWrong}
 use Rattle.line.specs.declared.places.Phase.the-variants.{Inside}
 use Rattle.line.specs.Listener.{nothing, frame, refused, fresh, events, after}
 use Rattle.line.specs.Readers.{freshReader}
-use Rattle.demands.specs.Wire.{Sent, Proper, AllProper, wireOf, anyFF, heardOf, anyRefused, framesOf, overBlocks}
+use Rattle.demands.specs.Wire.{Sent, Proper, AllProper, FirstAhead, wireOf, anyFF, heardOf, anyRefused, framesOf, overBlocks}
 use Rattle.demands.specs.Stops.{unended}
 use Rattle.demands.specs.Reading.{afterBytes, heardBy}
 
@@ -31,9 +31,11 @@ secondBytes = 0xFF ∷ 0xFF ∷ 0x01 ∷ 0xA1 ∷ 0xFF ∷ 0xFE ∷ 0x00 ∷ 0x0
 abbrev pub bytes : List ℕ
 bytes = firstBytes ++ secondBytes
 
--- the user's frames: one FF ahead is enough, and none is not
+-- the user's frames: one FF ahead is enough, and none is not; of a wire's first frame too, if it has one
 pub record Frames : Type 0 where
   pub enough : AllProper pair
+  pub first : FirstAhead pair
+  pub no-first : FirstAhead []
   pub none-ahead : Proper (record { ahead = 0; body = plain; behind = 2 }) → ⊥
   pub laid : wireOf pair ≡ bytes
   pub cut-off : unended 2 withFF ≡ 0xFF ∷ 0xFF ∷ 0x01 ∷ 0xA1 ∷ 0xFF ∷ 0xFE ∷ 0x00 ∷ 0x00 ∷ 0x39 ∷ 0xFF ∷ []
