@@ -32,7 +32,7 @@ stuff [] = none
 stuff (byte ∷ body) = stuff-byte byte (stuff body) (eqb byte 0xFF) refl
 
 -- inside, a stuffed body is kept whole
-pub inside-body : {body bytes : List ℕ} → Stuffed body bytes → (kept rest : List ℕ) (n m : ℕ) → length kept + length body ≤ 255 → n + length bytes ≡ m
+inside-body : {body bytes : List ℕ} → Stuffed body bytes → (kept rest : List ℕ) (n m : ℕ) → length kept + length body ≤ 255 → n + length bytes ≡ m
     → events (at (inside kept) n) (bytes ++ rest) ≡ events (at (inside (kept ++ body)) m) rest
 inside-body none kept rest n m room e =
     let same : n ≡ m = omega arith in
@@ -65,19 +65,26 @@ seeking-late (other {byte} {body} {bytes} not-ff s) zero rest n m e =
     seeking-other n (bytes ++ rest) byte not-ff ∙ seeking-late s zero rest (suc n) m (omega arith)
 seeking-late (other {byte} {body} {bytes} not-ff s) (suc late) rest n m e = seeking-late s late rest n m (omega arith)
 
--- from a delimiter on, a good body and one FF lead to Held with the whole body kept
-pub body-held : {body bytes : List ℕ} → Stuffed body bytes → judged body ≡ Good → length body ≤ 255 → (n m : ℕ) (rest : List ℕ)
+-- from a delimiter on, a byte that starts a body, the rest of it and one FF lead to Held with the whole body kept
+pub kept-whole : (byte : ℕ) {body bytes : List ℕ} → eqb byte 0xFF ≡ false → eqb byte 0xFE ≡ false → Stuffed body bytes → 1 + length body ≤ 255 → (n m : ℕ) (rest : List ℕ)
+    → n + length (byte ∷ bytes) + 1 ≡ m
+    → events (at delimited n) (byte ∷ (bytes ++ (0xFF ∷ rest))) ≡ events (at (held (byte ∷ body)) m) rest
+kept-whole byte {body} {bytes} not-ff not-fe s most n m rest e =
+    let clocks : suc (suc n + length bytes) ≡ m = omega arith in
+    delimited-other n (bytes ++ (0xFF ∷ rest)) byte not-ff not-fe
+    ∙ inside-body s (byte ∷ []) (0xFF ∷ rest) (suc n) (suc n + length bytes) most refl
+    ∙ inside-ff (suc n + length bytes) rest (byte ∷ body)
+    ∙ ap (λ (k : ℕ). events (at (held (byte ∷ body)) k) rest) clocks
+
+-- a good body starts with such a byte
+body-held : {body bytes : List ℕ} → Stuffed body bytes → judged body ≡ Good → length body ≤ 255 → (n m : ℕ) (rest : List ℕ)
     → n + length bytes + 1 ≡ m
     → events (at delimited n) (bytes ++ (0xFF ∷ rest)) ≡ events (at (held body) m) rest
 body-held none good most n m rest e = absurd (good-not-empty good)
 body-held (ff {body} s) good most n m rest e = let low : 0xFF < 0xFE = first-low (0xFF ∷ body) good in absurd (omega arith)
 body-held (other {byte} {body} {bytes} not-ff s) good most n m rest e =
     let low : byte < 0xFE = first-low (byte ∷ body) good in
-    let clocks : suc (suc n + length bytes) ≡ m = omega arith in
-    delimited-other n (bytes ++ (0xFF ∷ rest)) byte not-ff (ne-eqb byte 0xFE (λ (e : byte ≡ 0xFE). omega arith))
-    ∙ inside-body s (byte ∷ []) (0xFF ∷ rest) (suc n) (suc n + length bytes) (omega arith) refl
-    ∙ inside-ff (suc n + length bytes) rest (byte ∷ body)
-    ∙ ap (λ (k : ℕ). events (at (held (byte ∷ body)) k) rest) clocks
+    kept-whole byte not-ff (ne-eqb byte 0xFE (λ (e : byte ≡ 0xFE). omega arith)) s (omega arith) n m rest e
 
 -- the second FF gives the frame
 pub whole : {body bytes : List ℕ} → Stuffed body bytes → judged body ≡ Good → length body ≤ 255 → (behind n : ℕ) (rest : List ℕ) → 2 ≤ behind

@@ -14,8 +14,8 @@ use lib.Dec.{eqb}
 use Rattle.frame.specs.Stuffing.{stuffed}
 use Rattle.line.specs.Listener.{State, seeking, delimited, inside, held, Heard, Listener, tick, hear, events, after}
 use Rattle.demands.specs.Stops.{AtRest, unended, SilentInside, StopsInside}
-use Rattle.demands.proofs.Bytes.{at, seeking-ff, delimited-ff, delimited-fe, delimited-other, inside-ff}
-use Rattle.demands.proofs.Piece.{Stuffed, none, ff, other, stuff, inside-body, seeking-late}
+use Rattle.demands.proofs.Bytes.{at, seeking-ff, delimited-ff, delimited-fe}
+use Rattle.demands.proofs.Piece.{Stuffed, none, ff, other, stuff, kept-whole, seeking-late}
 use Rattle.demands.proofs.AllHeard.{Quiet}
 use Rattle.demands.proofs.Demand3.{demand3-then}
 use Rattle.demands.proofs.Cuts.{any-cut}
@@ -39,10 +39,7 @@ delimited-rest (other {byte} {body} {bytes} not-ff s) most zero n = by-first (eq
     by-first true is =
         ap (λ (b : ℕ). events (at delimited n) (b ∷ (bytes ++ (0xFF ∷ [])))) (eqb-true byte 0xFE is)
         ∙ delimited-fe n (bytes ++ (0xFF ∷ [])) ∙ seeking-rest s zero (suc n)
-    by-first false not-fe =
-        delimited-other n (bytes ++ (0xFF ∷ [])) byte not-ff not-fe
-        ∙ inside-body s (byte ∷ []) (0xFF ∷ []) (suc n) (suc n + length bytes) (omega arith) refl
-        ∙ inside-ff (suc n + length bytes) [] (byte ∷ body)
+    by-first false not-fe = kept-whole byte not-ff not-fe s (omega arith) n _ [] refl
 delimited-rest (other not-ff s) most (suc late) n = delimited-rest s (omega arith) late n
 
 -- the same from any state at rest, and with FFs ahead
