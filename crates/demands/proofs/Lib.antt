@@ -8,11 +8,14 @@ pub mod Demand3
 pub mod Entries
 pub mod Examples
 pub mod Logs
+pub mod Loops
 pub mod Messages
 pub mod Noted
 pub mod Piece
 pub mod Reading
-pub mod Unheard
+pub mod Shown
+pub mod Stops
 pub mod Tells
+pub mod Unheard
 pub mod Weighings
 pub mod WrittenDown

@@ -28,13 +28,13 @@ use Rattle.line.specs.declared.places.Event.the-variants.{Nothing, Frame, Refus
 use Rattle.line.specs.declared.reading.Reader.{Reader}
 use Rattle.line.specs.declared.reading.Fed.{Fed}
 use Rattle.line.specs.Listener.{Heard, frame, Listener, hear, heardThen, events, fresh}
-use Rattle.line.specs.Readers.{view, listening, taken, heardAs, fedFrom, fed, freshReader}
+use Rattle.line.specs.Readers.{view, listening, taken, heardAs, fedFrom, fed, freshPlace, freshReader}
 use Rattle.line.proofs.Joined.{joined, told}
-use Rattle.demands.specs.Reading.{EveryByte, afterBytes, heardBy, HearsAsListener, EveryBlock, EveryCut, ReaderDemand3, WrittenReadsBack}
+use Rattle.demands.specs.Reading.{EveryByte, afterBytes, heardBy, HearsAsListener, EveryBlock, EveryCut, ReaderDemand3, FrameReadsBack}
 use Rattle.demands.specs.Wire.{wireOf}
 use Rattle.demands.proofs.Corollaries.{reads-back}
 use Rattle.demands.proofs.Cuts.{and-then-append, over-blocks}
-use Rattle.demands.proofs.Demand3.{demand3}
+use Rattle.demands.proofs.Demand3.{shared-demand3}
 
 pub every-byte : EveryByte
 every-byte reader byte = record { next = joined reader byte; event = told reader byte }
@@ -46,14 +46,13 @@ hears-as-listener reader (byte ∷ bytes) =
     ap (λ (h : Heard). heardThen h (heardBy (taken reader byte .reader) bytes)) (told reader byte)
     ∙ ap (heardThen (hear (view reader) byte .event)) (hears-as-listener (taken reader byte .reader) bytes ∙ ap (λ (l : Listener). events l bytes) (joined reader byte))
 
--- a fresh reader stands for a fresh listener
-from-fresh : (bytes : List ℕ) → events (view freshReader) bytes ≡ events fresh bytes
+-- a fresh reader hears what a fresh listener hears, whatever older bytes stand in its array
+pub heard-fresh : (body bytes : List ℕ) → heardBy (record { place = freshPlace; body = body }) bytes ≡ events fresh bytes
 unfolding listening
-from-fresh bytes = refl
+heard-fresh body bytes = hears-as-listener (record { place = freshPlace; body = body }) bytes
 
 pub reader-demand3 : ReaderDemand3
-reader-demand3 list proper joined =
-    hears-as-listener freshReader (drop joined (wireOf list)) ∙ from-fresh (drop joined (wireOf list)) ∙ demand3 list proper joined
+reader-demand3 list shared joined = heard-fresh _ (drop joined (wireOf list)) ∙ shared-demand3 list shared joined
 
 -- ---- how far a block went
 
@@ -125,7 +124,7 @@ every-block reader block =
 
 -- ---- any cut
 
-heard-in-two : (reader : Reader) (first second : List ℕ) → heardBy reader (first ++ second) ≡ heardBy reader first ++ heardBy (afterBytes reader first) second
+pub heard-in-two : (reader : Reader) (first second : List ℕ) → heardBy reader (first ++ second) ≡ heardBy reader first ++ heardBy (afterBytes reader first) second
 unfolding heardBy afterBytes
 heard-in-two reader [] second = refl
 heard-in-two reader (byte ∷ first) second =
@@ -150,9 +149,9 @@ written-good address code data′ room good =
     let short = test-passed (ltb 255 (length (bodyOf address code data′))) _ _ (rest-passed (not (legal address)) _ _ good) in
     rw short (made-good code data′ address is-legal)
 
-pub written-reads-back : WrittenReadsBack
+pub frame-reads-back : FrameReadsBack
 unfolding writtenFrame
-written-reads-back address code data′ room answered left leaves good =
+frame-reads-back address code data′ room answered left leaves good =
     let body = bodyOf address code data′ in
     let verdict : judgedWrite address code data′ room ≡ Good =
     sym (ap (λ (a : Written). a .verdict) (leaves .answer) ∙ verdict-of (judgedWrite address code data′ room) (framed body) room) ∙ good in
@@ -160,6 +159,6 @@ written-reads-back address code data′ room answered left leaves good =
     let size : answered .length ≡ length (framed body) = ap (λ (a : Written). a .length) (wrote-it .answer) in
     let bytes : take (answered .length) left ≡ framed body =
     ap (λ (n : ℕ). take n left) size ∙ ap (take (length (framed body))) (wrote-it .room) ∙ take-append-seam (framed body) (drop (length (framed body)) room) in
-    ap (heardBy freshReader) bytes ∙ hears-as-listener freshReader (framed body) ∙ from-fresh (framed body)
+    ap (heardBy freshReader) bytes ∙ heard-fresh _ (framed body)
     ∙ reads-back body (written-good address code data′ room verdict)
     ∙ ap (λ (n : ℕ). frame n (length body) body ∷ []) (sym (size ∙ framed-length body))

@@ -1,9 +1,12 @@
 pub mod Counts
 pub mod Examples
 pub mod Logs
+pub mod Loops
 pub mod Messages
 pub mod Noted
 pub mod Reading
+pub mod Shown
+pub mod Stops
 pub mod Unheard
 pub mod Weighings
 pub mod Wire

@@ -13,7 +13,7 @@ use Rattle.line.specs.declared.places.Event.the-variants.{Nothing}
 use Rattle.line.specs.declared.reading.Reader.{Reader}
 use Rattle.line.specs.Listener.{Heard, frame, hear, heardThen, events}
 use Rattle.line.specs.Readers.{view, taken, heardAs, fed, freshReader}
-use Rattle.demands.specs.Wire.{Sent, AllProper, wireOf, heardOf, overBlocks}
+use Rattle.demands.specs.Wire.{Sent, AllShared, wireOf, heardOf, overBlocks}
 
 -- ---- one byte
 
@@ -63,10 +63,10 @@ EveryCut = (reader : Reader) (blocks : List (List ℕ)) → overBlocks heardBy a
 -- ---- demand 3, by the reader; and demand 2's reading of what the frame writer wrote
 
 abbrev pub ReaderDemand3 : Type 0
-ReaderDemand3 = (list : List Sent) → AllProper list → (joined : ℕ) → heardBy freshReader (drop joined (wireOf list)) ≡ heardOf (wireOf list) joined 0 list
+ReaderDemand3 = (list : List Sent) → AllShared list → (joined : ℕ) → heardBy freshReader (drop joined (wireOf list)) ≡ heardOf (wireOf list) joined 0 list
 
-abbrev pub WrittenReadsBack : Type 0
-WrittenReadsBack =
+abbrev pub FrameReadsBack : Type 0
+FrameReadsBack =
     (address : Address) (code : ℕ) (data′ room : List ℕ) (answered : Written) (left : List ℕ)
     → Leaves (writtenFrame address code data′ room) answered left → answered .verdict ≡ Good
     → heardBy freshReader (take (answered .length) left)
