@@ -5,7 +5,7 @@ use mathlib.Core.Path.{_≡_}
 use mathlib.Core.Bool.{Bool}
 use mathlib.Core.List.{List}
 use Rattle.refusal.specs.declared.Verdict.{Verdict}
-use Rattle.refusal.proofs.OneAnswer.{one}
+use Rattle.laws.proofs.OneAnswer.{one}
 use Rattle.body.specs.declared.addresses.Address.{Address}
 use Rattle.body.specs.declared.bodies.Opened.{Opened}
 use Rattle.body.specs.Addresses.{legal, addressLength, firstByte, serialOf}

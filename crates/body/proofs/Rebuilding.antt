@@ -2,7 +2,7 @@
 -- Why: the first byte tells how long the address is, and the check is the only last byte that feeds to 0.
 use Prim.Native.Nat.{ℕ, suc, _+_, _-_, _≤_, _<_}
 use mathlib.Core.Path.{_≡_, _∙_, refl, sym, ap, ap₂}
-use mathlib.Core.Bool.{Bool, true, false, not}
+use mathlib.Core.Bool.{Bool, true, false, not, and-eq-true-iff}
 use mathlib.Core.List.{List, [], _∷_, _++_}
 use native.Mathlib.Omega.{arith}
 use native.Mathlib.Numerals.{add-one}
@@ -12,9 +12,8 @@ use lib.ListN.{length, take, drop, getD, length-append, take-append-drop}
 use lib.Seq.{slice, take-at, take-suc, take-take, take-length, slice-cons}
 use lib.Pow.{areBytes}
 use Rattle.refusal.specs.declared.Verdict.the-variants.{Good}
-use Rattle.refusal.proofs.Booleans.{both-left, both-right}
 use Rattle.refusal.proofs.Verdicts.{test-passed, rest-passed}
-use Rattle.room.proofs.ByteLists.{byte-at}
+use Rattle.laws.proofs.ByteLists.{byte-at}
 use Rattle.check_byte.specs.Register.{received, checkOf}
 use Rattle.check_byte.proofs.Laws.{checked, only-check}
 use Rattle.low_first.specs.LowFirst.{lowBytes}
@@ -67,7 +66,7 @@ first-low body good = by-first (eqb (getD body 0 0) 0) refl
     by-first : (test : Bool) → eqb (getD body 0 0) 0 ≡ test → getD body 0 0 < 0xFE
     by-first true zero-first = omega (arith, eqb-true (getD body 0 0) 0 zero-first)
     by-first false other =
-        omega (arith, leb-true (getD body 0 0) highestShort (both-right (leb 1 (getD body 0 0)) _ (rw other at (good-address body good))))
+        omega (arith, leb-true (getD body 0 0) highestShort (and-eq-true-iff (leb 1 (getD body 0 0)) _ .0 (rw other at (good-address body good)) .1))
 
 -- ---- put together and taken apart
 
@@ -75,7 +74,7 @@ module _ (code : ℕ) (data′ : List ℕ) where
   pub address-back : (address : Address) → legal address ≡ true → addressIn (bodyOf address code data′) ≡ address
   unfolding legal addressIn bodyOf unchecked addressBytes lowBytes
   address-back (Short byte) is-legal =
-      let above = leb-true 1 byte (both-left (leb 1 byte) _ is-legal) in
+      let above = leb-true 1 byte (and-eq-true-iff (leb 1 byte) _ .0 is-legal .0) in
       rw (ne-eqb byte 0 (λ (e : byte ≡ 0). omega arith))
   address-back (Serial serial) is-legal =
       let fits = leb-true serial 16_777_215 is-legal in
@@ -115,7 +114,7 @@ module _ (code : ℕ) (data′ : List ℕ) where
   long : (address : Address) → legal address ≡ true → short (bodyOf address code data′) ≡ false
   unfolding legal bodyOf unchecked addressBytes lowBytes addressLength
   long (Short byte) is-legal =
-      let above = leb-true 1 byte (both-left (leb 1 byte) _ is-legal) in
+      let above = leb-true 1 byte (and-eq-true-iff (leb 1 byte) _ .0 is-legal .0) in
       not-short (bodyOf (Short byte) code data′) (omega (arith, body-length (Short byte) code data′)) (λ (e : byte ≡ 0). omega arith)
   long (Serial serial) is-legal =
       not-short (bodyOf (Serial serial) code data′) (omega (arith, body-length (Serial serial) code data′)) (λ _. omega (arith, body-length (Serial serial) code data′))

@@ -3,7 +3,7 @@
 use Prim.Native.Nat.{ℕ}
 use mathlib.Core.Path.{_≡_}
 use mathlib.Core.List.{List}
-use Rattle.refusal.proofs.OneAnswer.{one}
+use Rattle.laws.proofs.OneAnswer.{one}
 use Rattle.check_byte.specs.Register.{feedByte, feedAll, checkOf}
 
 pub feed-one : (register byte a b : ℕ) → a ≡ feedByte register byte → b ≡ feedByte register byte → a ≡ b

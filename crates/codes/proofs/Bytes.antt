@@ -2,11 +2,10 @@
 -- Why: the length rule of a row is a test on the length.
 use Prim.Native.Nat.{ℕ, _≤_}
 use mathlib.Core.Path.{_≡_}
-use mathlib.Core.Bool.{true}
+use mathlib.Core.Bool.{true, and-eq-true-iff}
 use mathlib.Core.List.{List}
 use borrow.Author.Tests.{eqb-true, leb-true}
 use lib.ListN.{length}
-use Rattle.refusal.proofs.Booleans.{both-left}
 use Rattle.codes.specs.declared.table.Row.{Row}
 use Rattle.codes.specs.declared.table.Length.the-variants.{Exactly, Counted}
 use Rattle.codes.specs.Lengths.{lengthOf, lengthRight}
@@ -18,4 +17,4 @@ exactly named count data′ is rule right = eqb-true (length data′) count (rw 
 
 -- a row with a count byte
 pub counted : (data′ : List ℕ) → lengthRight Counted data′ ≡ true → 2 ≤ length data′
-counted data′ right = leb-true 2 (length data′) (both-left _ _ right)
+counted data′ right = leb-true 2 (length data′) (and-eq-true-iff _ _ .0 right .0)

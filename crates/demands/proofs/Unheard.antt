@@ -2,14 +2,13 @@
 -- Why: a record's kind is asked ahead of its bytes, and what crosses without a weight has bytes of which no half is a digit.
 use Prim.Native.Nat.{ℕ, _<_}
 use mathlib.Core.Path.{_≡_, _∙_, refl, sym}
-use mathlib.Core.Bool.{Bool, true, false, cond, _||_}
+use mathlib.Core.Bool.{Bool, true, false, cond, _||_, and-eq-true-iff}
 use mathlib.Core.List.{List}
 use native.Mathlib.Omega.{arith}
 use borrow.Author.Tests.{ne-eqb, eqb-true}
 use lib.Dec.{eqb}
 use Rattle.refusal.specs.declared.Refusal.the-variants.{FieldOutside}
 use Rattle.refusal.specs.Numbers.{numberOf}
-use Rattle.refusal.proofs.Booleans.{both-right}
 use Rattle.weight.specs.declared.Read.{Read}
 use Rattle.weight.specs.declared.Read.the-variants as read-as
 use Rattle.weight.specs.declared.Value.the-variants as value-as
@@ -64,7 +63,7 @@ not-met item weighing = by-gross (eqb (item .kind) 1) refl
 
 notes-its : (item : Record) → good item ≡ true → weighs item ≡ true → item .status < 256 → NotesItsWeight item
 unfolding good goodWeighing
-notes-its item is-good weighing small = by-read (readingIn item) refl (both-right (goodAddress item) (readable (readingIn item)) (rw weighing at is-good))
+notes-its item is-good weighing small = by-read (readingIn item) refl (and-eq-true-iff (goodAddress item) (readable (readingIn item)) .0 (rw weighing at is-good) .1)
   where
     by-read : (read : Read) → readingIn item ≡ read → readable read ≡ true → NotesItsWeight item
     by-read (read-as.Good reading) e can = record {

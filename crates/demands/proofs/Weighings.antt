@@ -1,5 +1,6 @@
 -- Shown: no weighing in the log and no weight in the listing, of any bytes from any state handed in, unless a reply C2 or C3 with its four bytes was heard.
 -- Why: a line hands out a body only where it is good, a record or an entry of a weight is made of such a body alone, and such a body is its parts again.
+use mir.Facts.{and-yes, yes-and}
 use Prim.Native.Nat.{ℕ, _+_}
 use mathlib.Core.Path.{_≡_, _∙_, refl, sym, ap, subst}
 use mathlib.Core.List.{List, [], _∷_, _++_, map, List·Memᴰ, List·Memᴰ·head, List·Memᴰ·tail, List·Memᴰ·not-nil}
@@ -9,8 +10,7 @@ use lib.Dec.{T, ltb}
 use lib.Pow.{areBytes}
 use lib.ListN.{length, getD}
 use Rattle.refusal.specs.declared.Verdict.the-variants.{Good}
-use Rattle.refusal.proofs.Booleans.{T-left, T-right, T-both}
-use Rattle.room.proofs.ByteLists.{bytes-take}
+use Rattle.laws.proofs.ByteLists.{bytes-take}
 use Rattle.body.specs.declared.addresses.Address.{Address}
 use Rattle.body.specs.Body.{judged, codeIn, dataIn}
 use Rattle.body.specs.Addresses.{addressIn}
@@ -57,9 +57,9 @@ whole : (listener : Listener) (byte : ℕ) → Bytes listener → Whole (hear li
 whole listener byte all = every-told Whole listener byte tt tt tt (λ good. (all, good)) (λ why bad. tt)
 
 one-more : (kept : List ℕ) (more : ℕ) → T (areBytes kept) → T (ltb more 256) → T (areBytes (kept ++ (more ∷ [])))
-one-more [] more all small = T-both (ltb more 256) _ small tt
+one-more [] more all small = yes-and (ltb more 256) _ small tt
 one-more (byte ∷ kept) more all small =
-    T-both (ltb byte 256) _ (T-left (ltb byte 256) (areBytes kept) all) (one-more kept more (T-right (ltb byte 256) (areBytes kept) all) small)
+    yes-and (ltb byte 256) _ (and-yes (ltb byte 256) (areBytes kept) all .0) (one-more kept more (and-yes (ltb byte 256) (areBytes kept) all .1) small)
 
 stays : (listener : Listener) (byte : ℕ) → T (ltb byte 256) → Bytes listener → Bytes (hear listener byte .next)
 stays listener byte small all =
@@ -86,7 +86,7 @@ all-whole : (reader : Reader) → T (areBytes (reader .body)) → (bytes : List 
 all-whole reader all bytes small =
     every-event (λ (listener : Listener) (bytes : List ℕ). Bytes listener × T (areBytes bytes)) Whole
     (λ listener byte bytes known. (
-      (stays listener byte (T-left (ltb byte 256) (areBytes bytes) (known .1)) (known .0), T-right (ltb byte 256) (areBytes bytes) (known .1)),
+      (stays listener byte (and-yes (ltb byte 256) (areBytes bytes) (known .1) .0) (known .0), and-yes (ltb byte 256) (areBytes bytes) (known .1) .1),
       whole listener byte (known .0),
     ))
     (view reader) bytes (handed reader all, small)

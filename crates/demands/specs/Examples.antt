@@ -27,7 +27,7 @@ use Rattle.entries.specs.declared.entries.Entry.the-variants.{Nothing, Weight, 
 use Rattle.entries.specs.Entries.{entryOf}
 
 pub record Example : Type 0 where
-  pub wire : List ℕ
+  pub bytes : List ℕ
   pub heard : List Heard
   pub role : Role
   pub said : List Received
@@ -55,16 +55,16 @@ valuesOf said = flatten (map (λ (received : Received). valueIn (entryOf receive
 -- what the definitions make of an example's bytes
 abbrev pub computed : Example → Example
 computed example =
-    let heard = events fresh (example .wire) in
+    let heard = events fresh (example .bytes) in
     let said = map (readMessage (example .role)) (bodiesOf heard) in
-    record { wire = example .wire; heard = heard; role = example .role; said = said; values = valuesOf said }
+    record { bytes = example .bytes; heard = heard; role = example .role; said = said; values = valuesOf said }
 
 -- the frames of the bodies heard
 abbrev pub framedAgain : Example → List (List ℕ)
 framedAgain example = map framed (bodiesOf (example .heard))
 
 abbrev pub asSent : Example → List (List ℕ)
-asSent example = map (λ (body : List ℕ). example .wire) (bodiesOf (example .heard))
+asSent example = map (λ (body : List ℕ). example .bytes) (bodiesOf (example .heard))
 
 -- a message of short address 1 whose data stand from place 2 up to place `to`
 abbrev pub from1 : ℕ → ℕ → What → Received
@@ -80,40 +80,40 @@ oneZeroMore = zeros 254 0x01
 
 abbrev pub examples : List Example
 examples =
-    record { wire = 0xFF ∷ 0x01 ∷ 0xC3 ∷ 0xE3 ∷ 0xFF ∷ 0xFF ∷ []; heard = frame 6 3 (0x01 ∷ 0xC3 ∷ 0xE3 ∷ []) ∷ []; role = Request; said = from1 0xC3 2 says.Nothing ∷ []; values = [] }
-    ∷ record { wire = 0xFF ∷ 0x01 ∷ 0xC2 ∷ 0x8A ∷ 0xFF ∷ 0xFF ∷ []; heard = frame 6 3 (0x01 ∷ 0xC2 ∷ 0x8A ∷ []) ∷ []; role = Request; said = from1 0xC2 2 says.Nothing ∷ []; values = [] }
+    record { bytes = 0xFF ∷ 0x01 ∷ 0xC3 ∷ 0xE3 ∷ 0xFF ∷ 0xFF ∷ []; heard = frame 6 3 (0x01 ∷ 0xC3 ∷ 0xE3 ∷ []) ∷ []; role = Request; said = from1 0xC3 2 says.Nothing ∷ []; values = [] }
+    ∷ record { bytes = 0xFF ∷ 0x01 ∷ 0xC2 ∷ 0x8A ∷ 0xFF ∷ 0xFF ∷ []; heard = frame 6 3 (0x01 ∷ 0xC2 ∷ 0x8A ∷ []) ∷ []; role = Request; said = from1 0xC2 2 says.Nothing ∷ []; values = [] }
     ∷ record {
-      wire = 0xFF ∷ 0x01 ∷ 0xC3 ∷ 0x51 ∷ 0x02 ∷ 0x00 ∷ 0x01 ∷ 0xDE ∷ 0xFF ∷ 0xFF ∷ [];
+      bytes = 0xFF ∷ 0x01 ∷ 0xC3 ∷ 0x51 ∷ 0x02 ∷ 0x00 ∷ 0x01 ∷ 0xDE ∷ 0xFF ∷ 0xFF ∷ [];
       heard = frame 10 7 (0x01 ∷ 0xC3 ∷ 0x51 ∷ 0x02 ∷ 0x00 ∷ 0x01 ∷ 0xDE ∷ []) ∷ [];
       role = Reply;
       said = from1 0xC3 6 (says.Weight Gross (record { minus = false; number = 251; point = 1; bit6 = false; bit5 = false; settled = false; overload = false })) ∷ [];
       values = Tenths (pos 251_000_000) ∷ [];
     }
     ∷ record {
-      wire = 0xFF ∷ 0x01 ∷ 0xC2 ∷ 0x05 ∷ 0x00 ∷ 0x00 ∷ 0x91 ∷ 0x32 ∷ 0xFF ∷ 0xFF ∷ [];
+      bytes = 0xFF ∷ 0x01 ∷ 0xC2 ∷ 0x05 ∷ 0x00 ∷ 0x00 ∷ 0x91 ∷ 0x32 ∷ 0xFF ∷ 0xFF ∷ [];
       heard = frame 10 7 (0x01 ∷ 0xC2 ∷ 0x05 ∷ 0x00 ∷ 0x00 ∷ 0x91 ∷ 0x32 ∷ []) ∷ [];
       role = Reply;
       said = from1 0xC2 6 (says.Weight Net (record { minus = true; number = 5; point = 1; bit6 = false; bit5 = false; settled = true; overload = false })) ∷ [];
       values = Tenths (negsuc 4_999_999) ∷ [];
     }
     ∷ record {
-      wire = 0xFF ∷ 0x01 ∷ 0xA1 ∷ 0xFF ∷ 0xFE ∷ 0x00 ∷ 0x00 ∷ 0x39 ∷ 0xFF ∷ 0xFF ∷ [];
+      bytes = 0xFF ∷ 0x01 ∷ 0xA1 ∷ 0xFF ∷ 0xFE ∷ 0x00 ∷ 0x00 ∷ 0x39 ∷ 0xFF ∷ 0xFF ∷ [];
       heard = frame 10 6 (0x01 ∷ 0xA1 ∷ 0xFF ∷ 0x00 ∷ 0x00 ∷ 0x39 ∷ []) ∷ [];
       role = Reply;
       said = from1 0xA1 5 (says.Serial 255) ∷ [];
       values = [];
     }
-    ∷ record { wire = 0xFF ∷ 0x01 ∷ 0xC3 ∷ 0xE2 ∷ 0xFF ∷ 0xFF ∷ []; heard = refused CheckWrong 6 3 ∷ []; role = Reply; said = []; values = [] }
-    ∷ record { wire = 0xFF ∷ 0x01 ∷ 0xFF ∷ 0xFF ∷ []; heard = refused BodyShort 4 1 ∷ []; role = Reply; said = []; values = [] }
-    ∷ record { wire = 0xFF ∷ 0x01 ∷ 0xFF ∷ 0x02 ∷ []; heard = refused HeldBroken 4 1 ∷ []; role = Reply; said = []; values = [] }
+    ∷ record { bytes = 0xFF ∷ 0x01 ∷ 0xC3 ∷ 0xE2 ∷ 0xFF ∷ 0xFF ∷ []; heard = refused CheckWrong 6 3 ∷ []; role = Reply; said = []; values = [] }
+    ∷ record { bytes = 0xFF ∷ 0x01 ∷ 0xFF ∷ 0xFF ∷ []; heard = refused BodyShort 4 1 ∷ []; role = Reply; said = []; values = [] }
+    ∷ record { bytes = 0xFF ∷ 0x01 ∷ 0xFF ∷ 0x02 ∷ []; heard = refused HeldBroken 4 1 ∷ []; role = Reply; said = []; values = [] }
     ∷ record {
-      wire = 0xFF ∷ (zeros 253 0x27 ++ (0xFF ∷ 0xFF ∷ []));
+      bytes = 0xFF ∷ (zeros 253 0x27 ++ (0xFF ∷ 0xFF ∷ []));
       heard = frame 258 255 (zeros 253 0x27) ∷ [];
       role = Reply;
       said = received-as.Refused CodeUnknown ∷ [];
       values = [];
     }
-    ∷ record { wire = 0xFF ∷ (oneZeroMore ++ (0xFF ∷ 0xFF ∷ [])); heard = refused BodyLong 257 255 ∷ []; role = Reply; said = []; values = [] }
+    ∷ record { bytes = 0xFF ∷ (oneZeroMore ++ (0xFF ∷ 0xFF ∷ [])); heard = refused BodyLong 257 255 ∷ []; role = Reply; said = []; values = [] }
     ∷ []
 
 -- the one claim: what is heard, said and weighed is what the table says, what was heard whole is written as it was sent, and the body that is

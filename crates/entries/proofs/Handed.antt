@@ -23,6 +23,6 @@ list-alike [] same = refl
 list-alike (heard ∷ later) same =
     ap₂ (λ (x : Entry) (xs : List Entry). x ∷ xs) (same heard (List·Memᴰ·head refl)) (list-alike later (λ one among. same one (List·Memᴰ·tail among)))
 
-pub handed-out : (listener : Listener) (wire : List ℕ) → map (entryIf true) (events listener wire) ≡ map entryHeard (events listener wire)
-handed-out listener wire =
-    list-alike (events listener wire) (every-event (λ _ _. Unit {0}) Same (λ listener byte bytes _. (tt, byte-same listener byte)) listener wire tt)
+pub handed-out : (listener : Listener) (bytes : List ℕ) → map (entryIf true) (events listener bytes) ≡ map entryHeard (events listener bytes)
+handed-out listener bytes =
+    list-alike (events listener bytes) (every-event (λ _ _. Unit {0}) Same (λ listener byte bytes _. (tt, byte-same listener byte)) listener bytes tt)

@@ -3,7 +3,7 @@
 use Prim.Native.Nat.{ℕ}
 use mathlib.Core.Path.{_≡_}
 use mathlib.Core.List.{List}
-use Rattle.refusal.proofs.OneAnswer.{one}
+use Rattle.laws.proofs.OneAnswer.{one}
 use Rattle.room.specs.declared.Written.{Written}
 use Rattle.room.specs.Writing.{Leaves}
 use Rattle.room.proofs.OneAnswer.{leaves-one}

@@ -3,7 +3,7 @@
 use Prim.Native.Nat.{ℕ}
 use mathlib.Core.Path.{_≡_}
 use mathlib.Core.List.{List}
-use Rattle.refusal.proofs.OneAnswer.{one}
+use Rattle.laws.proofs.OneAnswer.{one}
 use Rattle.line.specs.declared.places.Place.{Place}
 use Rattle.line.specs.declared.listening.Went.{Went}
 use Rattle.line.specs.declared.reading.Reader.{Reader}

@@ -9,6 +9,6 @@ use Rattle.entries.specs.Entries.{entryIf}
 use Rattle.entries.proofs.Handed.{handed-out}
 use Rattle.listing.specs.Whole.{listed, listing}
 
-pub lists-the-same : (listener : Listener) (wire : List ℕ) → listed (map (entryIf true) (events listener wire)) ≡ listing (events listener wire)
+pub lists-the-same : (listener : Listener) (bytes : List ℕ) → listed (map (entryIf true) (events listener bytes)) ≡ listing (events listener bytes)
 unfolding listing
-lists-the-same listener wire = ap listed (handed-out listener wire)
+lists-the-same listener bytes = ap listed (handed-out listener bytes)

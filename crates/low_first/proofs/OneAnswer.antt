@@ -3,7 +3,7 @@
 use Prim.Native.Nat.{ℕ, _+_, _*_}
 use mathlib.Core.Path.{_≡_}
 use mathlib.Core.List.{[], _∷_}
-use Rattle.refusal.proofs.OneAnswer.{one}
+use Rattle.laws.proofs.OneAnswer.{one}
 use Rattle.low_first.specs.LowFirst.{lowFirst}
 
 pub word-one : (first second third fourth a b : ℕ) → a ≡ lowFirst (first ∷ second ∷ third ∷ fourth ∷ []) → b ≡ lowFirst (first ∷ second ∷ third ∷ fourth ∷ []) → a ≡ b

@@ -3,7 +3,7 @@
 use Prim.Native.Nat.{ℕ}
 use mathlib.Core.Path.{_≡_}
 use mathlib.Core.List.{List}
-use Rattle.refusal.proofs.OneAnswer.{one}
+use Rattle.laws.proofs.OneAnswer.{one}
 use Rattle.body.specs.declared.addresses.Address.{Address}
 use Rattle.codes.specs.declared.table.Role.{Role}
 use Rattle.meaning.specs.declared.meaning.Told.{Told}

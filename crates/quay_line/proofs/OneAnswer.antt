@@ -3,7 +3,7 @@
 use mathlib.Core.Path.{_≡_}
 use Prim.Native.Nat.{ℕ}
 use mathlib.Core.List.{List}
-use Rattle.refusal.proofs.OneAnswer.{one}
+use Rattle.laws.proofs.OneAnswer.{one}
 use Rattle.quay_line.specs.declared.places.QuayPlace.{QuayPlace}
 use Rattle.quay_line.specs.declared.listening.QuayWent.{QuayWent}
 use Rattle.quay_line.specs.Listening.{Listened}

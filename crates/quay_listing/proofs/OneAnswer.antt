@@ -3,7 +3,7 @@
 use Prim.Native.Nat.{ℕ}
 use mathlib.Core.Path.{_≡_}
 use mathlib.Core.List.{List}
-use Rattle.refusal.proofs.OneAnswer.{one}
+use Rattle.laws.proofs.OneAnswer.{one}
 use Rattle.crossing.specs.declared.events.QuayEvent.{QuayEvent}
 use Rattle.quay_listing.specs.declared.lines.QuayListed.{QuayListed}
 use Rattle.quay_listing.specs.Lines.{Lists}

@@ -1,12 +1,11 @@
 -- Shown: a legal address that crosses comes back as itself, and the bytes that stand for no weight read as none.
 -- Why: a legal short address is not 0; no half of FF is a digit.
 use mathlib.Core.Path.{_≡_, refl}
-use mathlib.Core.Bool.{true}
+use mathlib.Core.Bool.{true, and-eq-true-iff}
 use borrow.Author.Tests.{ne-eqb, leb-true}
 use native.Mathlib.Omega.{arith}
 use lib.Dec.{leb}
 use Rattle.refusal.specs.declared.Refusal.the-variants.{FieldOutside}
-use Rattle.refusal.proofs.Booleans.{both-left}
 use Rattle.body.specs.declared.addresses.Address.{Address}
 use Rattle.body.specs.declared.addresses.Address.the-variants.{Short, Serial}
 use Rattle.body.specs.Addresses.{legal, firstByte, serialOf}
@@ -19,7 +18,7 @@ pub address-back : (address : Address) → legal address ≡ true → addressFro
 unfolding addressFrom legal
 address-back (Serial serial) is-legal = refl
 address-back (Short short) is-legal =
-    let low = leb-true 1 short (both-left (leb 1 short) _ is-legal) in
+    let low = leb-true 1 short (and-eq-true-iff (leb 1 short) _ .0 is-legal .0) in
     rw (ne-eqb short 0 (λ (e : short ≡ 0). omega arith))
 
 pub no-weight : readOf (noWeight .w0) (noWeight .w1) (noWeight .w2) (noWeight .con) ≡ read-as.Refused FieldOutside

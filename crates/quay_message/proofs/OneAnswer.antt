@@ -3,7 +3,7 @@
 use Prim.Native.Nat.{ℕ}
 use mathlib.Core.Path.{_≡_}
 use mathlib.Core.List.{List}
-use Rattle.refusal.proofs.OneAnswer.{one}
+use Rattle.laws.proofs.OneAnswer.{one}
 use Rattle.crossing.specs.Roles.{roleFrom}
 use Rattle.quay_message.specs.declared.messages.QuayMessage.{QuayMessage}
 use Rattle.quay_message.specs.Messages.{messageIn}

@@ -1,7 +1,7 @@
 -- Shown: each promise of this crate admits one answer.
 -- Why: each is an equation with a definition.
 use mathlib.Core.Path.{_≡_}
-use Rattle.refusal.proofs.OneAnswer.{one}
+use Rattle.laws.proofs.OneAnswer.{one}
 use Rattle.crossing.specs.declared.weights.QuayWeight.{QuayWeight}
 use Rattle.quay_weight.specs.declared.weights.QuayReading.{QuayReading}
 use Rattle.quay_weight.specs.declared.weights.QuayValue.{QuayValue}

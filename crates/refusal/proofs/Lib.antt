@@ -1,4 +1,3 @@
-pub mod Booleans
 pub mod Distinct
 pub mod OneAnswer
 pub mod Verdicts

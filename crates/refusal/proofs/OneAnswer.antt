@@ -1,15 +1,12 @@
--- Shown: each promise of this crate admits one answer, and so does every promise that is an equation with a definition.
--- Why: two answers that meet it are equal by way of that definition.
+-- Shown: each promise of this crate admits one answer.
+-- Why: each is an equation with a definition.
 use Prim.Native.Nat.{ℕ}
 use mathlib.Core.Bool.{Bool}
-use mathlib.Core.Path.{_≡_, _∙_, sym}
+use mathlib.Core.Path.{_≡_}
+use Rattle.laws.proofs.OneAnswer.{one}
 use Rattle.refusal.specs.declared.Refusal.{Refusal}
 use Rattle.refusal.specs.declared.Named.{Named}
 use Rattle.refusal.specs.Numbers.{numberOf, namedOf, lineStatus}
-
--- the law behind every `NAME-one`: two answers that are both the defined one are equal
-pub one {ℓ} : {A : Type ℓ} {defined a b : A} → a ≡ defined → b ≡ defined → a ≡ b
-one p q = p ∙ sym q
 
 pub number-one : (refusal : Refusal) (a b : ℕ) → a ≡ numberOf refusal → b ≡ numberOf refusal → a ≡ b
 number-one refusal a b = one

@@ -1,3 +1,2 @@
-pub mod ByteLists
 pub mod OneAnswer
 pub mod Over

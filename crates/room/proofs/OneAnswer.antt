@@ -5,7 +5,7 @@ use mathlib.Core.Path.{_≡_}
 use mathlib.Core.List.{List, [], _∷_}
 use lib.ListN.{take}
 use Rattle.refusal.specs.declared.Refusal.{Refusal}
-use Rattle.refusal.proofs.OneAnswer.{one}
+use Rattle.laws.proofs.OneAnswer.{one}
 use Rattle.room.specs.declared.Written.{Written}
 use Rattle.room.specs.Laying.{Laid}
 use Rattle.room.specs.Writing.{Left, Leaves, refusedWrite}

@@ -2,20 +2,19 @@
 -- Why: a byte's decimal halves are the two digits of a number below 100, and such pairs are a number's digits by hundreds.
 use Prim.Native.Nat.{ℕ, _+_, _*_, _/_, _%_, _<_, _≤_}
 use mathlib.Core.Path.{_≡_, sym, _∙_}
-use mathlib.Core.Bool.{true, _&&_}
+use mathlib.Core.Bool.{true, _&&_, and-eq-true-iff}
 use native.Mathlib.Omega.{arith}
 use native.Mathlib.Nat.{div-add-mod'}
 use lib.Arith.{digits-div, digits-mod, mod-mul}
 use lib.Dec.{leb, lit<}
 use borrow.Author.Tests.{leb-true, le-leb}
 use Rattle.weight.specs.Digits.{decimal, allDecimal, twoDigits, digitsOf, pairOf}
-use Rattle.weight.proofs.Sizes.{and-first, and-second}
 
 decimal-high : (byte : ℕ) → decimal byte ≡ true → byte / 16 ≤ 9
-decimal-high byte e = leb-true _ _ (and-first (leb (byte / 16) 9) (leb (byte % 16) 9) e)
+decimal-high byte e = leb-true _ _ (and-eq-true-iff (leb (byte / 16) 9) (leb (byte % 16) 9) .0 e .0)
 
 decimal-low : (byte : ℕ) → decimal byte ≡ true → byte % 16 ≤ 9
-decimal-low byte e = leb-true _ _ (and-second (leb (byte / 16) 9) (leb (byte % 16) 9) e)
+decimal-low byte e = leb-true _ _ (and-eq-true-iff (leb (byte / 16) 9) (leb (byte % 16) 9) .0 e .1)
 
 -- the halves of a packed byte
 half-high : (high low : ℕ) → low ≤ 9 → (high * 16 + low) / 16 ≡ high
@@ -60,13 +59,13 @@ module _ (number : ℕ) where
 
 module _ (w0 w1 w2 : ℕ) (good : allDecimal w0 w1 w2 ≡ true) where
   first : decimal w0 ≡ true
-  first = and-first (decimal w0) (decimal w1) (and-first (decimal w0 && decimal w1) (decimal w2) good)
+  first = and-eq-true-iff (decimal w0) (decimal w1) .0 (and-eq-true-iff (decimal w0 && decimal w1) (decimal w2) .0 good .0) .0
 
   second : decimal w1 ≡ true
-  second = and-second (decimal w0) (decimal w1) (and-first (decimal w0 && decimal w1) (decimal w2) good)
+  second = and-eq-true-iff (decimal w0) (decimal w1) .0 (and-eq-true-iff (decimal w0 && decimal w1) (decimal w2) .0 good .0) .1
 
   third : decimal w2 ≡ true
-  third = and-second (decimal w0 && decimal w1) (decimal w2) good
+  third = and-eq-true-iff (decimal w0 && decimal w1) (decimal w2) .0 good .1
 
   -- the digits of each byte are below 100
   small : (byte : ℕ) → decimal byte ≡ true → twoDigits byte < 100

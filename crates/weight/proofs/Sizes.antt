@@ -2,7 +2,7 @@
 -- Why: `inRange` is two tests; 10^(7 - point) is at most 10^7; a sign adds at most one to a magnitude.
 use Prim.Native.Nat.{ℕ, zero, suc, _*_, _-_, _^_, _<_, _≤_}
 use mathlib.Core.Path.{_≡_, refl, sym, subst}
-use mathlib.Core.Bool.{Bool, true, false, _&&_}
+use mathlib.Core.Bool.{Bool, true, false, _&&_, and-eq-true-iff}
 use native.Mathlib.Nat.{mul-le-mul, pow-le-pow-right}
 use native.Mathlib.Omega.{arith}
 use lib.Dec.{T, leb}
@@ -15,22 +15,14 @@ use Rattle.weight.specs.declared.Reading.{Reading}
 use Rattle.weight.specs.Bytes.{inRange}
 use Rattle.weight.specs.Tenths.{signed}
 
-pub and-first : (a b : Bool) → (a && b) ≡ true → a ≡ true
-and-first true b e = refl
-and-first false b e = e
-
-pub and-second : (a b : Bool) → (a && b) ≡ true → b ≡ true
-and-second true b e = e
-and-second false b e = absurd (subst T (sym e) tt)
-
 module _ (reading : Reading) (good : inRange reading ≡ true) where
   pub legal-number : reading .number ≤ 999999
   unfolding inRange
-  legal-number = leb-true _ _ (and-first (leb (reading .number) 999999) (leb (reading .point) 7) good)
+  legal-number = leb-true _ _ (and-eq-true-iff (leb (reading .number) 999999) (leb (reading .point) 7) .0 good .0)
 
   pub legal-point : reading .point ≤ 7
   unfolding inRange
-  legal-point = leb-true _ _ (and-second (leb (reading .number) 999999) (leb (reading .point) 7) good)
+  legal-point = leb-true _ _ (and-eq-true-iff (leb (reading .number) 999999) (leb (reading .point) 7) .0 good .1)
 
 -- "The largest is 9,999,990,000,000"
 pub size-le : (number point : ℕ) → number ≤ 999999 → number * 10 ^ (7 - point) ≤ 9999990000000

@@ -3,7 +3,7 @@
 use mathlib.Core.Path.{ap}
 use native.Mathlib.Omega.{arith}
 use Rattle.low_first.specs.LowFirst.{lowFirst}
-use Rattle.room.proofs.ByteLists.{by-place, placed}
+use Rattle.laws.proofs.ByteLists.{by-place, placed}
 use borrow.Author.Needs.{needs}
 use Rattle.meaning.proofs.meaning.converter_in.Statement.{statement}
 use Rattle.meaning.proofs.meaning.converter_in.Tie as tie

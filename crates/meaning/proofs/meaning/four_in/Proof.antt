@@ -1,6 +1,6 @@
 -- `meaning::four_in` meets its contract: data of four bytes are those bytes in their order.
 -- Why: a list of four is the list of what stands at its four places.
-use Rattle.room.proofs.ByteLists.{by-place, placed}
+use Rattle.laws.proofs.ByteLists.{by-place, placed}
 use borrow.Author.Needs.{needs}
 use Rattle.meaning.proofs.meaning.four_in.Statement.{statement}
 use Rattle.meaning.proofs.meaning.four_in.Tie as tie

@@ -1,6 +1,6 @@
 -- `meaning::serial_in` meets its contract: three bytes as a number, low byte first.
 -- Why: they are four with a zero at the high end.
-use Rattle.room.proofs.ByteLists.{by-place, placed}
+use Rattle.laws.proofs.ByteLists.{by-place, placed}
 use Rattle.low_first.specs.LowFirst.{lowFirst}
 use mathlib.Core.Path.{_∙_, sym, ap}
 use borrow.Author.Needs.{needs}

@@ -1,5 +1,6 @@
 -- Shown: an element of a list of bytes is below 256, a part of one is one, and a list of known length is its elements by their places.
 -- Why: by induction along the list.
+use mir.Facts.{and-yes, yes-and}
 use Prim.Native.Nat.{ℕ, zero, suc, _<_}
 use mathlib.Core.Path.{_≡_, refl, ap}
 use mathlib.Core.List.{List, [], _∷_}
@@ -8,25 +9,24 @@ use native.Mathlib.Omega.{arith}
 use lib.Dec.{T, ltb, ltb→lt, lit<}
 use lib.ListN.{length, take, drop, getD}
 use lib.Pow.{areBytes}
-use Rattle.refusal.proofs.Booleans.{T-left, T-right, T-both}
 
 -- a byte of a list of bytes, wherever it stands
 pub byte-at : (bytes : List ℕ) → T (areBytes bytes) → (i : ℕ) → getD bytes i 0 < 256
 byte-at [] all i = lit< tt
-byte-at (byte ∷ bytes) all zero = ltb→lt byte 256 (T-left (ltb byte 256) (areBytes bytes) all)
-byte-at (byte ∷ bytes) all (suc i) = byte-at bytes (T-right (ltb byte 256) (areBytes bytes) all) i
+byte-at (byte ∷ bytes) all zero = ltb→lt byte 256 (and-yes (ltb byte 256) (areBytes bytes) all .0)
+byte-at (byte ∷ bytes) all (suc i) = byte-at bytes (and-yes (ltb byte 256) (areBytes bytes) all .1) i
 
 -- a part of a list of bytes
 pub bytes-take : (count : ℕ) (bytes : List ℕ) → T (areBytes bytes) → T (areBytes (take count bytes))
 bytes-take zero bytes all = tt
 bytes-take (suc count) [] all = tt
 bytes-take (suc count) (byte ∷ bytes) all =
-    T-both (ltb byte 256) _ (T-left (ltb byte 256) (areBytes bytes) all) (bytes-take count bytes (T-right (ltb byte 256) (areBytes bytes) all))
+    yes-and (ltb byte 256) _ (and-yes (ltb byte 256) (areBytes bytes) all .0) (bytes-take count bytes (and-yes (ltb byte 256) (areBytes bytes) all .1))
 
 pub bytes-drop : (count : ℕ) (bytes : List ℕ) → T (areBytes bytes) → T (areBytes (drop count bytes))
 bytes-drop zero bytes all = all
 bytes-drop (suc count) [] all = tt
-bytes-drop (suc count) (byte ∷ bytes) all = bytes-drop count bytes (T-right (ltb byte 256) (areBytes bytes) all)
+bytes-drop (suc count) (byte ∷ bytes) all = bytes-drop count bytes (and-yes (ltb byte 256) (areBytes bytes) all .1)
 
 -- so many elements, each told by its place
 unfoldable pub placed : ℕ → (ℕ → ℕ) → List ℕ

@@ -1,0 +1,1 @@
+// Laws that every crate cites: it has no code.
