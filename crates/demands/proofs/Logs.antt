@@ -15,7 +15,7 @@ use Rattle.weighing_log.specs.declared.hearing.Noted.{Noted}
 use Rattle.weighing_log.specs.declared.hearing.Noted.the-variants as noted-as
 use Rattle.weighing_log.specs.Hearing.{recordOf, notedHeard}
 use Rattle.weighing_log.proofs.Heard.{refusal-made, said-made, made-good}
-use Rattle.weighing_log.proofs.Joining.{Writable, none, more, log-back, log-again}
+use Rattle.records.proofs.Joining.{Writable, none, more, log-back, log-again}
 use Rattle.demands.specs.Weighings.{noteThen, recordsFrom}
 use Rattle.demands.specs.Logs.{WholeLogAgain, LineLogWhole}
 

@@ -27,11 +27,11 @@ use Rattle.records.specs.declared.reading.RecordRead.the-variants as record-rea
 use Rattle.records.specs.Records.{weighs, wasMet, readingIn, goodAddress, goodWeighing, good}
 use Rattle.records.specs.Reading.{readRecord}
 use Rattle.records.proofs.Unweighed.{met-unheard, met-refusal, weighing-noted}
-use Rattle.weighing_log.specs.declared.stepping.Stepped.{Stepped}
-use Rattle.weighing_log.specs.declared.stepping.Stepped.the-variants as stepped-as
+use Rattle.records.specs.declared.stepping.Stepped.{Stepped}
+use Rattle.records.specs.declared.stepping.Stepped.the-variants as stepped-as
 use Rattle.weighing_log.specs.declared.hearing.Noted.{Noted}
 use Rattle.weighing_log.specs.declared.hearing.Noted.the-variants as noted-as
-use Rattle.weighing_log.specs.Stepping.{stepped}
+use Rattle.records.specs.Stepping.{stepped}
 use Rattle.weighing_log.specs.Hearing.{notedHeard}
 use Rattle.line.specs.Readers.{heardAs}
 use Rattle.crossing.specs.declared.events.Given.{Given}

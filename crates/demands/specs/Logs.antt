@@ -11,7 +11,7 @@ use Rattle.codes.specs.declared.table.Role.{Role}
 use Rattle.codes.specs.declared.table.Role.the-variants.{Reply}
 use Rattle.codes.specs.declared.table.Load.the-variants.{Net, Gross}
 use Rattle.weighing_log.specs.Hearing.{weighing, metOnLine}
-use Rattle.weighing_log.specs.Stepping.{wholeLog, bytesOfLog}
+use Rattle.records.specs.Stepping.{wholeLog, bytesOfLog}
 use Rattle.demands.specs.Examples.{Example, examples}
 use Rattle.demands.specs.Weighings.{recordsHeard}
 

@@ -18,7 +18,7 @@ use Rattle.records.specs.declared.records.Record.{Record}
 use Rattle.records.specs.Records.{kindOf, weighs, wasMet, good}
 use Rattle.records.specs.Reading.{readRecord}
 use Rattle.records.specs.Weighings.{weightNoted}
-use Rattle.weighing_log.specs.Stepping.{stepped}
+use Rattle.records.specs.Stepping.{stepped}
 use Rattle.crossing.specs.declared.events.QuayEvent.{QuayEvent}
 use Rattle.crossing.specs.declared.weights.QuayWeight.{QuayWeight}
 use Rattle.crossing.specs.Events.{eventFrom}

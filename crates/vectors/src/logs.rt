@@ -13,9 +13,9 @@ use crate::words::say_refused;
 use crate::words::say_small;
 use records::Record;
 use records::RecordRead;
+use records::Stepped;
 use room::Written;
 use weighing_log::Noted;
-use weighing_log::Stepped;
 
 // Eight bytes of the time, kind, address, four of the serial, status, W0 W1 W2.
 fn take_record() -> Record {
@@ -69,7 +69,7 @@ pub(crate) fn heard(text: &[u8]) {
 
 // Log and place; the record there and the place behind it.
 pub(crate) fn step(text: &[u8]) {
-    match weighing_log::step(text, take_number() as usize) {
+    match records::step(text, take_number() as usize) {
         Stepped::End => say_small(0),
         Stepped::Record(record, next) => {
             say_small(1);
