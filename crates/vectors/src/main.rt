@@ -36,7 +36,7 @@ fn tell(function: u8, text: &[u8]) {
         10 => lines::listen(text),
         11 => lines::hear(text),
         12 => weights::read(),
-        13 => weights::legal(),
+        13 => weights::in_range(),
         14 => weights::write(),
         15 => weights::value(),
         16 => weights::difference(),

@@ -29,7 +29,7 @@ pub(crate) fn read() {
 }
 
 // A reading; whether its number and its point lie in their ranges.
-pub(crate) fn legal() {
+pub(crate) fn in_range() {
     say_flag(weight::in_range(take_reading()))
 }
 
