@@ -115,7 +115,8 @@ typedef struct QuayWeight {
     uint8_t w0, w1, w2, con;
 } QuayWeight;
 
-/* What a terminal shows; the marks are 0 or 1. Refused, every other field is all ones. */
+/* What a terminal shows; the marks are 0 or 1. Refused, the number and the marks are all ones and the point is 0: number and point together are
+ * far above any weight. */
 typedef struct QuayReading {
     uint32_t number; /* 0 to 999,999 */
     uint8_t point;   /* digits after the point, 0 to 7 */
@@ -128,7 +129,7 @@ typedef struct QuayReading {
 } QuayReading;
 
 typedef struct QuayValue {
-    int64_t value; /* tenths of a milligram; refused, INT64_MIN */
+    int64_t value; /* tenths of a milligram; refused, INT64_MIN. Keep it in 64 bits: 32 hold no more than 214 kg. Subtract by quay_difference */
     uint8_t refusal;
 } QuayValue;
 
@@ -151,7 +152,7 @@ typedef struct QuayListed {
 
 /* What a message says. A number, a count or a weight that it does not have is all ones: no terminal says such a one. */
 typedef struct QuayWhat {
-    uint64_t number; /* UINT64_MAX where none is said: in a weight, and where the message was refused */
+    uint64_t number; /* UINT64_MAX where none is said: in a weight, in a message without data, and where the message was refused */
     size_t from;     /* where in the lent body a text or an event's bytes begin; 0 where there are none */
     size_t to;       /* the place behind them */
     uint32_t on;     /* UINT32_MAX where no inputs are said */

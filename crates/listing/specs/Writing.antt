@@ -1,4 +1,5 @@
--- Writing a line into lent room: 8 where an entry holds a reading that is none, then 9, "lent room shorter than needed".
+-- Writing a line into lent room: 8 where an entry holds a reading out of its ranges or a refusal that no line can meet, then 9, "lent room
+-- shorter than needed".
 use Prim.Native.Nat.{ℕ, _+_}
 use mathlib.Core.Path.{_≡_}
 use mathlib.Core.Bool.{not}

@@ -42,11 +42,11 @@ goodReading reading = record {
   refusal = 0;
 }
 
--- a number above 999,999, a point above 7, marks above 1
+-- a number above 999,999, marks above 1. The point is 0: with more digits behind it the number would look small, and like nothing with 255
 abbrev pub noReading : Refusal → QuayReading
 noReading why = record {
   number = 4_294_967_295;
-  point = 255;
+  point = 0;
   minus = 255;
   bit6 = 255;
   bit5 = 255;

@@ -13,7 +13,8 @@ use weight::value_of;
 ghost use mathlib.Core.Path.{_≡_};
 ghost use Rattle.quay_weight.specs.Weights.{weightIn, mark, goodReading, noReading, readingOut, valueOut, valueRead, differenceRead, kilogramsOut, kilogramsRead};
 
-// What a terminal shows. The marks are 0 or 1. Refused, every other field is all ones: no such number and point are shown.
+// What a terminal shows. The marks are 0 or 1. Refused, the number and the marks are all ones, and no digit stands behind the point: number and
+// point together are far above any weight.
 #[repr(C)]
 pub struct QuayReading {
     pub number: u32, // 0 to 999,999
@@ -66,7 +67,7 @@ fn no_reading(why: Refusal) -> QuayReading
 {
     QuayReading {
         number: 4_294_967_295,
-        point: 255,
+        point: 0,
         minus: 255,
         bit6: 255,
         bit5: 255,
