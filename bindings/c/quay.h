@@ -1,22 +1,22 @@
 /* The quay reader for C and C++: the fourteen functions of libquay.a.
  *
- * A weight that wasn't heard never looks like a weight of nothing. So each answer has a field `refusal` (of a step, in its item): 0, or a number of the rules paper's
- * list, and where it is not 0 no other field can pass for a weight: a value is INT64_MIN, kilograms are not a number, weight bytes are FF. So are
- * the weight bytes of a record that notes a refusal (kind 3), though that record was read and its own `refusal` is 0.
- * Ask `refusal` first all the same.
+ * A weight that wasn't heard never looks like a weight of nothing. So each answer has a field `refusal` (a step has it in its item). It is 0, or a number
+ * of the rules paper's list. If it is not 0, no other field can pass for a weight: a value is INT64_MIN, kilograms are not a number, weight bytes are FF.
+ * A record that notes a refusal (kind 3) has weight bytes FF too, although it was read and its own `refusal` is 0.
+ * Test `refusal` first all the same.
  *
- * Proved are the functions in the archive (crates/quay_*): each for every value of every argument, under the rules below. NOT proved is this
- * header: the declarations are written by hand. The assertions at its end hold every size and every offset to the numbers of the C rules, and
- * tests/host/run calls every function through it; beyond that they are as right as this text.
+ * The functions in the archive (crates/quay_*) are proved: each for every value of every argument, under the rules below. This header is NOT
+ * proved: its declarations are written by hand. The assertions at its end compare every size and every offset with the numbers of the C rules.
+ * tests/host/run calls every function through it. Beyond that the declarations are as right as this text.
  *
- * Rules of lending, which C cannot hold you to:
- *  - No pointer is ever null, also where its length is 0: point to any byte then.
- *  - A pointer and the length behind it lend exactly so many bytes. `body` of quay_listen lends exactly 255.
- *  - Bytes lent to be written (`room`, and `body` of quay_listen) overlap no other bytes of the same call.
- *  - The library keeps no pointer and has no state of its own. What it was lent to read it never changes.
- *  - No two calls at once may share bytes that one of them writes; otherwise any threads may call.
+ * Rules of lending. Lent bytes are the caller's; a function uses them during the call. C cannot make you keep these rules:
+ *  - No pointer is ever null. Where the length is 0, point to any byte.
+ *  - A pointer and the length after it lend exactly so many bytes. `body` of quay_listen lends exactly 255.
+ *  - Bytes lent for writing (`room`, and `body` of quay_listen) overlap no other bytes of the same call.
+ *  - The library keeps no pointer and has no state of its own. It never changes bytes lent for reading.
+ *  - Two calls at the same time must not share bytes that one of them writes. Otherwise any threads may call.
  *
- * The archive is for x86-64 and the System V convention (Linux and the like); it needs memcpy and nothing else.
+ * The archive is for x86-64 and the System V convention (Linux and the like). It needs memcpy and nothing else.
  */
 #ifndef QUAY_H
 #define QUAY_H
@@ -47,12 +47,12 @@ enum {
     QUAY_NOT_REFUSED = 0,
     QUAY_BODY_SHORT = 1,      /* a body of under 3 bytes, or of under 6 where its first is 00 */
     QUAY_BODY_LONG = 2,       /* a body of more than 255 bytes */
-    QUAY_HELD_BROKEN = 3,     /* behind an FF inside a body stood neither FE nor FF */
+    QUAY_HELD_BROKEN = 3,     /* the byte after an FF inside a body was neither FE nor FF */
     QUAY_CHECK_WRONG = 4,     /* the check byte is wrong */
     QUAY_ADDRESS_ILLEGAL = 5, /* an address that no frame may carry */
     QUAY_CODE_UNKNOWN = 6,    /* a code that the table does not have in that role */
     QUAY_LENGTH_WRONG = 7,    /* data of a length that is wrong for the code */
-    QUAY_FIELD_OUTSIDE = 8,   /* a field outside its values; also a phase, role, kind or refusal handed in that is none */
+    QUAY_FIELD_OUTSIDE = 8,   /* a field outside its values; also a number handed in that names no phase, role, kind, or refusal of a line */
     QUAY_ROOM_SHORT = 9,      /* the lent room is shorter than needed */
     QUAY_LOG_LEFT_OVER = 10,  /* 1 to 19 bytes left over in a log */
     QUAY_RECORD_BROKEN = 11   /* a record that breaks a rule */
@@ -91,14 +91,14 @@ enum { /* QuayWhat.says: what a message says, and in which fields */
 /* Where a reader stands. All zeros are a fresh reader: QuayPlace place = {0, 0, QUAY_SEEKING}; */
 typedef struct QuayPlace {
     uint64_t wire; /* bytes taken since the reader started, modulo 2^64 */
-    size_t kept;   /* body bytes kept: the first so many of the lent 255 */
+    size_t kept;   /* how many body bytes are kept: they are the first of the lent 255 */
     uint8_t phase;
 } QuayPlace;
 
 /* An event of the line. Its two counts never stand in for each other. */
 typedef struct QuayEvent {
-    uint64_t wire;   /* the place on the wire, with the byte that gave the event */
-    size_t kept;     /* body bytes kept at that moment; of a frame, how many bytes its body has */
+    uint64_t wire;   /* the place on the wire, counting the byte that gave the event */
+    size_t kept;     /* body bytes kept at that moment; for a frame, how many bytes its body has */
     uint8_t kind;
     uint8_t refusal; /* of the line; 0 unless the kind is QUAY_EVENT_REFUSED */
 } QuayEvent;
@@ -110,13 +110,13 @@ typedef struct QuayWent {
     uint8_t refusal; /* of the call, not of the line */
 } QuayWent;
 
-/* The four bytes of a weight as the wire has them. Four times FF are no weight: every use of them is refused. */
+/* The four bytes of a weight as the wire has them. Four times FF is no weight: every use of it is refused. */
 typedef struct QuayWeight {
     uint8_t w0, w1, w2, con;
 } QuayWeight;
 
-/* What a terminal shows; the marks are 0 or 1. Refused, the number and the marks are all ones and the point is 0: number and point together are
- * far above any weight. */
+/* What a terminal shows. The marks are 0 or 1. If refused, the number and the marks are all ones and the point is 0: number and point
+ * together are far above any weight. */
 typedef struct QuayReading {
     uint32_t number; /* 0 to 999,999 */
     uint8_t point;   /* digits after the point, 0 to 7 */
@@ -129,16 +129,16 @@ typedef struct QuayReading {
 } QuayReading;
 
 typedef struct QuayValue {
-    int64_t value; /* tenths of a milligram; refused, INT64_MIN. Keep it in 64 bits: 32 hold no more than 214 kg. Subtract by quay_difference */
+    int64_t value; /* tenths of a milligram; INT64_MIN if refused. Keep it in 64 bits: 32 bits hold 214 kg. Subtract with quay_difference */
     uint8_t refusal;
 } QuayValue;
 
 typedef struct QuayKilograms {
-    double kilograms; /* refused, not a number */
+    double kilograms; /* not a number if refused */
     uint8_t refusal;
 } QuayKilograms;
 
-/* What a write answers. Refused, length 0, and every byte of the room as it stood. Else only its own length of bytes changed. */
+/* What a write answers. If refused, the length is 0 and every byte of the room is as it stood. Otherwise only the first `length` bytes are changed. */
 typedef struct QuayWritten {
     size_t length;
     uint8_t refusal;
@@ -150,11 +150,11 @@ typedef struct QuayListed {
     uint8_t refusal;
 } QuayListed;
 
-/* What a message says. A number, a count or a weight that it does not have is all ones: no terminal says such a one. */
+/* What a message says. A number, a count or a weight that it does not have is all ones. No terminal says that. */
 typedef struct QuayWhat {
     uint64_t number; /* UINT64_MAX where none is said: in a weight, in a message without data, and where the message was refused */
     size_t from;     /* where in the lent body a text or an event's bytes begin; 0 where there are none */
-    size_t to;       /* the place behind them */
+    size_t to;       /* the place after them */
     uint32_t on;     /* UINT32_MAX where no inputs are said */
     QuayWeight weight;
     uint8_t load;
@@ -164,60 +164,60 @@ typedef struct QuayWhat {
 typedef struct QuayMessage {
     QuayWhat what;
     size_t from;           /* where in the lent body the data begin */
-    size_t to;             /* the place behind them */
+    size_t to;             /* the place after them */
     uint32_t serial;
-    uint8_t short_address; /* 0 says that the serial is the address (`short` in the library: C keeps that word for itself) */
+    uint8_t short_address; /* 0 says that the serial is the address. The library calls this field `short`, a word that C keeps for itself */
     uint8_t code;
     uint8_t refusal;
 } QuayMessage;
 
-/* A record of a log. Kind 0 is no record: refused where `refusal` is not 0, else there was none to tell. What is no weighing, kinds 0 and 3,
- * has weight bytes FF, which read as no weight: ask `kind` before you ask for a weight. */
+/* A record of a log. Kind 0 is no record: if `refusal` is not 0 the record was refused, otherwise there was none. Kinds 0 and 3 are no weighing.
+ * Their weight bytes are FF, which read as no weight. Test `kind` before you ask for a weight. */
 typedef struct QuayRecord {
     uint64_t time;
     uint32_t serial;
     uint8_t kind;
     uint8_t address;
-    uint8_t status;     /* CON of a weight; of QUAY_RECORD_REFUSED the refusal's number */
+    uint8_t status;     /* CON of a weight; for QUAY_RECORD_REFUSED the refusal's number */
     uint8_t w0, w1, w2; /* FF unless the kind is 1 or 2 */
     uint8_t refusal;
 } QuayRecord;
 
 typedef struct QuayStepped {
     QuayRecord item;
-    size_t next; /* the place behind the record; without a record the place handed in */
+    size_t next; /* the place after the record; without a record, the place handed in */
 } QuayStepped;
 
 /* ---- the line */
 
-/* Takes bytes of a block up to and with the first event, or to the block's end; hand in the rest of the block, from `used` on, next.
+/* Takes bytes of a block up to and including the first event, or to the block's end. Next hand in the rest of the block, from `used` on.
  * An empty block takes nothing and hands the place back as it stood. A place with more than 255 kept bytes is treated as fresh, wire count 0.
- * Refusals of the call: 8 where the place has no such phase; then nothing is taken, and the place and all of `body` are as they stood.
- * Refusals of the line are no refusal of the call: they stand in `event`, by 1, 2, 3, 4 or 5 (at a body's end judged 1, 4, 5).
- * Lent: `body`, exactly 255 bytes, the same ones with each block as they were left, whatever they held at first. After a frame its body is
- * the first event.kept of them, until the next call. Bytes behind those kept are as they stood. */
+ * Refusals of the call: 8 where the place has a phase that does not exist. Then nothing is taken, and the place and all of `body` are as they stood.
+ * Refusals of the line are not refusals of the call. They stand in `event`, as 1, 2, 3, 4 or 5 (at a body's end judged 1, 4, 5).
+ * Lent: `body`, exactly 255 bytes. Lend the same bytes with each block, as they were left. At first they may hold anything. After a frame its body is
+ * the first event.kept of them, until the next call. Bytes after those kept are as they stood. */
 QuayWent quay_listen(QuayPlace place, const uint8_t *block, size_t block_length, uint8_t body[QUAY_BODY_ROOM]);
 
 /* ---- frames and messages
  *
- * An address is a short one (1 to 9F) with serial 0, or short address 0 with a serial (0 to 16,777,215). Both at once are no address. */
+ * An address is a short one (1 to 9F) with serial 0, or short address 0 with a serial (0 to 16,777,215). Both at once make no address. */
 
-/* Writes the frame of an address, any code and data: delimiters, inserted FEs and check as they go on the wire.
+/* Writes the frame of an address, any code and data, with delimiters, inserted FEs and check as they go on the wire.
  * Refusals: 5 (no address), 2 (the body would pass 255), 9 (room), in this order. */
 QuayWritten quay_write_frame(uint8_t short_address, uint32_t serial, uint8_t code, const uint8_t *data, size_t data_length, uint8_t *room,
                              size_t room_length);
 
 /* Writes the frame of a message in a role, from the data of the paper's table.
- * Refusals: 8 where the role is none; then 5, 6, 7, 8 (a field of the data), 2, 9, in this order. */
+ * Refusals: 8 for a role that does not exist; then 5, 6, 7, 8 (a field of the data), 2, 9, in this order. */
 QuayWritten quay_write_message(uint8_t role, uint8_t short_address, uint32_t serial, uint8_t code, const uint8_t *data, size_t data_length,
                                uint8_t *room, size_t room_length);
 
-/* Reads a body (address, code, data, check; no delimiters) in a role. Its check is made here, also for a body that quay_listen handed out.
- * Refusals: 8 where the role is none; then 2 (over 255 bytes), 1, 4, 5, 6, 7, 8, in this order. Refused, the number and
- * `on` are all ones, the weight four times FF and every other field 0. */
+/* Reads a body (address, code, data, check; no delimiters) in a role. It tests the check itself, also for a body that quay_listen handed out.
+ * Refusals: 8 for a role that does not exist; then 2 (over 255 bytes), 1, 4, 5, 6, 7, 8, in this order. If refused, the number and
+ * `on` are all ones, the weight is four times FF and every other field is 0. */
 QuayMessage quay_read_message(uint8_t role, const uint8_t *body, size_t body_length);
 
-/* ---- weights. Refusal: 8, a half of W0, W1 or W2 that is no decimal digit. CON is any byte. */
+/* ---- weights. Refusal: 8 for a half of W0, W1 or W2 that is no decimal digit. CON is any byte. */
 
 /* The reading that four bytes show. */
 QuayReading quay_read_weight(QuayWeight weight);
@@ -225,10 +225,10 @@ QuayReading quay_read_weight(QuayWeight weight);
 /* The value in tenths of a milligram, -9,999,990,000,000 to 9,999,990,000,000. */
 QuayValue quay_value(QuayWeight weight);
 
-/* Gross less net in tenths of a milligram; it may be negative. Refused where either is refused. */
+/* Gross less net in tenths of a milligram. It may be negative. It is refused where either weight is refused. */
 QuayValue quay_difference(QuayWeight gross, QuayWeight net);
 
-/* The value in kilograms, rounded once. A weight of minus nothing is plus zero. */
+/* The value in kilograms, rounded once. A weight of minus zero gives plus zero. */
 QuayKilograms quay_kilograms(QuayWeight weight);
 
 /* ---- the log */
@@ -244,19 +244,19 @@ QuayRecord quay_read_record(const uint8_t *bytes, size_t bytes_length);
  * Refusals: 10 (1 to 19 bytes left over), 11, in this order. */
 QuayStepped quay_step(const uint8_t *log, size_t log_length, size_t place);
 
-/* The record that an event makes at a time, in the role in which the line is read: a gross or net reply, or a refusal by 1 to 8 of the line
- * or of its message. Kind 0 and no refusal where it makes none. Of a frame, its body is the first event.kept of the lent bytes (all of them
- * where they are fewer), and is judged again, check and all.
- * Refusals: 8 where the role is none, or the event's kind, or the number of its refusal: a line meets 1 to 8 and no other. */
+/* The record that an event makes at a time, in the role in which the line is read. It notes a gross or net reply, or a refusal 1 to 8 of the line
+ * or of its message. Where the event makes no record, the answer is kind 0 and no refusal. The body of a frame is the first event.kept of the lent
+ * bytes (all of them where they are fewer). It is judged again, check and all.
+ * Refusals: 8 for a role or a kind of event that does not exist, and for a number of its refusal that is not 1 to 8. A line meets no others. */
 QuayRecord quay_record_heard(uint64_t time, uint8_t role, QuayEvent event, const uint8_t *body, size_t body_length);
 
 /* ---- the listing */
 
-/* Writes the line of an event, newline and all, as the event of that number; the line is read as replies. Where there was no event there is
- * no line: length 0, entry 0, no refusal. Of a frame, its body is the first event.kept of the lent bytes (all of them where they are fewer),
- * and is judged again, check and all: other bytes than those that were heard list as the refusal they earn.
- * Refusals: 8 where the event's kind is none, or the number of its refusal, which is 1 to 8 (entry 0 then); 9 (entry as if it had fitted),
- * in this order. */
+/* Writes the listing's line of an event, with its newline, as the event of that number. The event is read as a reply. Where there was no event
+ * there is no line: length 0, entry 0, no refusal. The body of a frame is the first event.kept of the lent bytes (all of them where they are fewer).
+ * It is judged again, check and all. Other bytes than those that were heard list as the refusal they earn.
+ * Refusals: 8 for a kind of event that does not exist, or a number of its refusal that is not 1 to 8 (then entry is 0); 9 (then entry is as if the
+ * line had fitted), in this order. */
 QuayListed quay_list_event(uint64_t number, QuayEvent event, const uint8_t *body, size_t body_length, uint8_t *room, size_t room_length);
 
 /* Writes the total line: all events, weights and refusals of the listing. Refusal: 9. */
@@ -266,7 +266,7 @@ QuayWritten quay_list_total(uint64_t total, uint64_t weights, uint64_t refused, 
 }
 #endif
 
-/* ---- every size and every offset of the library, asserted: a compiler that lays a struct out in another way stops here */
+/* ---- every size and every offset of the library is asserted: a compiler that lays a struct out in another way stops here */
 
 #ifdef __cplusplus
 #define QUAY_HOLDS(claim, words) static_assert(claim, words)

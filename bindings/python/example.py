@@ -1,9 +1,9 @@
 #!/usr/bin/env python3
 """Polls a captured line from a file instead of a port: lists what is heard, and notes weighings and refusals in a log.
 
-The listing is that of `bin/quay list`. A file has no clock, so the log's times are made: event 1 has the start time, and each event
-after it a second more. What cannot be opened, read or written is said on standard error; then there is no total line, and the exit
-status is 1. A log that is there already is not touched.
+The listing is that of `bin/quay list`. A file has no clock, so the log's times are made up: event 1 has the start time, and each event
+after it a second more. If something cannot be opened, read or written, standard error says so. Then there is no total line, and the exit
+status is 1. A log that already exists is not touched.
 """
 from __future__ import annotations
 
@@ -41,7 +41,7 @@ class Poll:
             log.write(quay.write_record(record))
 
     def end(self) -> None:
-        """The total line: it stands only where everything was heard and noted."""
+        """Writes the total line. It stands only where everything was heard and noted."""
         if self.log is not None:
             self.log.close()
         sys.stdout.write(quay.list_total(self.total, self.counts[quay.Entry.WEIGHT], self.counts[quay.Entry.REFUSAL]))

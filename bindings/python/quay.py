@@ -1,7 +1,7 @@
 """The quay reader for Python: what a weighbridge terminal says on its line (the Tenso-M protocol), as numbers to trust.
 
-A weight that wasn't heard never looks like a weight of nothing: whatever the library refuses is raised as `Refused`, with the
-number of the rules paper's list, or is an event or a row of its own that has no weight.
+A weight that wasn't heard never looks like a weight of nothing. What the library refuses is raised as `Refused`, with the
+number of the rules paper's list. Or it is an event or a row of its own, which has no weight.
 
     reader = quay.Reader()
     for event in reader.feed(port.read()):        # Frame or LineRefusal; any cut of blocks gives the same events
@@ -13,8 +13,8 @@ number of the rules paper's list, or is an event or a row of its own that has no
 
     table = pandas.DataFrame(quay.rows(open('august.log', 'rb').read()))
 
-The library (libquay.so) is loaded when it is first used: the one named in the environment variable QUAY_LIBRARY, or else the one
-beside this module; `load_library(path)` takes another.
+The library (libquay.so) is loaded when it is first used. It is the one named in the environment variable QUAY_LIBRARY, or else the
+one beside this module. `load_library(path)` takes another.
 
 >>> weight = Weight.from_bytes(bytes.fromhex('51020001'))
 >>> weight.value, weight.kilograms_exact, weight.kilograms

@@ -1,6 +1,6 @@
 """The library itself: its structs and functions as ctypes sees them, and how it is found and loaded.
 
-Most programs want `quay` instead. Here every answer is the struct that the library gives, refused or not: where its field
+Most programs want `quay` instead. Here every answer is the struct that the library gives, refused or not. If its field
 `refusal` is not 0, no other field of it says anything.
 """
 from __future__ import annotations
@@ -44,23 +44,23 @@ class QuayWritten(ctypes.Structure):
 
 
 class QuayWeight(ctypes.Structure):
-    """The four bytes of a weight. Four times FF are no weight: every use is refused by 8."""
+    """The four bytes of a weight. Four times FF is no weight: every use is refused by 8."""
     _fields_ = [('w0', c_uint8), ('w1', c_uint8), ('w2', c_uint8), ('con', c_uint8)]
 
 
 class QuayReading(ctypes.Structure):
-    """What a terminal shows. Refused, every other field is all ones."""
+    """What a terminal shows. If refused, every other field is all ones."""
     _fields_ = [('number', c_uint32), ('point', c_uint8), ('minus', c_uint8), ('bit6', c_uint8), ('bit5', c_uint8),
                 ('settled', c_uint8), ('overload', c_uint8), ('refusal', c_uint8)]
 
 
 class QuayValue(ctypes.Structure):
-    """A signed whole number of tenths of a milligram. Refused, the lowest number there is."""
+    """A signed whole number of tenths of a milligram. If refused, it is the lowest number there is."""
     _fields_ = [('value', c_int64), ('refusal', c_uint8)]
 
 
 class QuayKilograms(ctypes.Structure):
-    """A weight in kilograms. Refused, it is not a number."""
+    """A weight in kilograms. If refused, it is not a number."""
     _fields_ = [('kilograms', c_double), ('refusal', c_uint8)]
 
 
@@ -77,13 +77,13 @@ class QuayMessage(ctypes.Structure):
 
 
 class QuayRecord(ctypes.Structure):
-    """A record of a log. Kind 0 is no record: refused where `refusal` is not 0, and else there was none to tell."""
+    """A record of a log. Kind 0 is no record: if `refusal` is not 0 the record was refused, otherwise there was none."""
     _fields_ = [('time', c_uint64), ('serial', c_uint32), ('kind', c_uint8), ('address', c_uint8), ('status', c_uint8),
                 ('w0', c_uint8), ('w1', c_uint8), ('w2', c_uint8), ('refusal', c_uint8)]
 
 
 class QuayStepped(ctypes.Structure):
-    """A record and the place behind it. Without a record the place is the one handed in."""
+    """A record and the place after it. Without a record the place is the one handed in."""
     _fields_ = [('item', QuayRecord), ('next', c_size_t)]
 
 
@@ -92,8 +92,8 @@ class QuayListed(ctypes.Structure):
     _fields_ = [('length', c_size_t), ('entry', c_uint8), ('refusal', c_uint8)]
 
 
-# The size of each struct and where its fields stand, by the C rules of x86-64. A struct that is laid out otherwise here would let a
-# refusal be taken for a weight, so nothing is loaded then.
+# The size of each struct and the places of its fields, by the C rules of x86-64. If a struct were laid out otherwise here, a refusal
+# could be taken for a weight. So nothing is loaded then.
 LAYOUT: Dict[Type[ctypes.Structure], Tuple[int, Dict[str, int]]] = {
     QuayPlace: (24, {'wire': 0, 'kept': 8, 'phase': 16}),
     QuayEvent: (24, {'wire': 0, 'kept': 8, 'kind': 16, 'refusal': 17}),
@@ -134,7 +134,7 @@ FUNCTIONS: Dict[str, Tuple[Type[ctypes.Structure], list]] = {
 
 
 class LibraryNotLoaded(ImportError):
-    """The library could not be loaded; the text says where it was looked for, why it failed and what to do."""
+    """The library could not be loaded. The text says where it was looked for, why loading failed and what to do."""
 
 
 def check_layout() -> None:
@@ -169,9 +169,9 @@ _loaded: Optional[ctypes.CDLL] = None
 
 
 def load_library(path: Optional[Union[str, os.PathLike]] = None) -> ctypes.CDLL:
-    """Loads the library, and from then on every function here uses it.
+    """Loads the library. From then on every function here uses it.
 
-    Without a path it is the one named in QUAY_LIBRARY, and without that libquay.so beside this module.
+    Without a path it is the one named in QUAY_LIBRARY. Without that it is libquay.so beside this module.
     """
     global _loaded
     check_layout()
@@ -187,12 +187,12 @@ def load_library(path: Optional[Union[str, os.PathLike]] = None) -> ctypes.CDLL:
 
 
 def library() -> Any:
-    """The loaded library; it is loaded when it is first asked for."""
+    """The loaded library. It is loaded when it is first asked for."""
     return _loaded if _loaded is not None else load_library()
 
 
 def address_of(data: bytes) -> int:
-    """Where bytes begin, to lend them from a place behind that. They must be held for as long as they are lent."""
+    """Where bytes begin, so that they can be lent from a later place on. They must be held for as long as they are lent."""
     address = ctypes.cast(ctypes.c_char_p(data), c_void_p).value
     assert address, 'bytes always begin somewhere'
     return address

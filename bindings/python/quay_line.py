@@ -19,8 +19,8 @@ REFUSAL_KIND = 2
 
 @dataclass(frozen=True)
 class Frame:
-    """A frame was heard. `wire` is the place on the wire, bytes since the reader started; `kept` the place in the body, how many
-    bytes the body has; `body` those bytes."""
+    """A frame was heard. `wire` is the place on the wire: bytes since the reader started. `kept` is the place in the body: how many
+    bytes the body has. `body` has those bytes."""
     wire: int
     kept: int
     body: bytes
@@ -44,7 +44,7 @@ class LineRefusal:
         return meaning_of(self.number)
 
     def crossing(self) -> Tuple[QuayEvent, bytes]:
-        """The event as the library takes it; it has no body."""
+        """The event as the library takes it. It has no body."""
         wire, kept = whole_number('wire', self.wire, HIGHEST_COUNT), whole_number('kept', self.kept, HIGHEST_COUNT)
         return QuayEvent(wire, kept, REFUSAL_KIND, whole_number('number', self.number, HIGHEST_BYTE)), b''
 
@@ -90,7 +90,7 @@ class Reader:
         return Phase(self._place.phase)
 
     def feed(self, block: Bytes) -> Iterator[Event]:
-        """The events of a block, in order. The whole block is taken at once, also where nobody asks for its events: a block that
+        """The events of a block, in order. The whole block is taken at once, also if nobody asks for its events. So a block that
         was fed is never half heard."""
         return iter(self._heard(as_bytes(block)))
 
@@ -127,8 +127,8 @@ class Listed:
 
 
 def list_event(number: int, event: Event) -> Listed:
-    """The line of an event, as the event of that number. It is read as a reply. The body of a frame is judged again, check and all: bytes
-    that nobody heard list as the refusal they earn.
+    """The line of an event, as the event of that number. The event is read as a reply. The body of a frame is judged again, check and
+    all: bytes that nobody heard list as the refusal they earn.
 
     >>> list_event(2, Frame(wire=10, kept=7, body=bytes.fromhex('01c20500009132')))
     Listed(line='2 weight net 1 - 000005 1 1 0\\n', entry=<Entry.WEIGHT: 1>)

@@ -16,16 +16,16 @@ from quay_weight import Weight
 RECORD_BYTES = 20
 REFUSAL_RECORD = 3
 
-# A number that is no refusal's: a record that carries it is refused by 11.
+# A number that no refusal has. A record that carries it is refused by 11.
 NO_REFUSAL = 0
 
-# The weight bytes of what is no weighing.
+# The weight bytes of a record that is no weighing.
 NO_DIGITS = (255, 255, 255)
 
 
 @dataclass(frozen=True)
 class Weighing:
-    """A gross or net reply: kind 1 or 2. `time` is in seconds as the caller gives it."""
+    """A gross or net reply: kind 1 or 2. `time` is in seconds, as the caller gives it."""
     time: int
     load: Load
     address: Address
@@ -45,7 +45,7 @@ class RefusalMet:
     number: int
 
     def crossing(self) -> QuayRecord:
-        """The record as the library takes it. A number that is not even a byte is no refusal's."""
+        """The record as the library takes it. No refusal has a number that is not even a byte."""
         number = operator.index(self.number)
         status = number if 0 <= number <= HIGHEST_BYTE else NO_REFUSAL
         return QuayRecord(_seconds(self.time), 0, REFUSAL_RECORD, 0, status, *NO_DIGITS, 0)
@@ -69,7 +69,7 @@ def _told(item: QuayRecord) -> Record:
 
 
 def record_heard(time: int, event: Event, role: Role = Role.REPLY) -> Optional[Record]:
-    """The record that an event makes at a time, its body read in a role; None where it makes none.
+    """The record that an event makes at a time, its body read in a role. None if the event makes no record.
 
     >>> from quay_line import LineRefusal
     >>> record_heard(1000, LineRefusal(4, wire=6, kept=3))
@@ -102,8 +102,8 @@ def read_record(twenty: Bytes) -> Record:
 
 
 class LogRefused(Refused):
-    """A log is not whole: 10 where bytes are left over, 11 where a record breaks a rule. `place` is the byte where what is refused
-    begins; `records` and `rows` are all that stood before it."""
+    """A log is not whole: 10 where bytes are left over, 11 where a record breaks a rule. `place` is the byte where the refused part
+    begins. `records` and `rows` are all that stood before it."""
 
     def __init__(self, number: int, place: int, records: Tuple[Record, ...]) -> None:
         super().__init__(number)
@@ -121,7 +121,7 @@ class LogRefused(Refused):
 
 @dataclass(frozen=True)
 class Log:
-    """A log as it was read. `ending` is None where the log is whole, and else why it ends where its records end."""
+    """A log as it was read. `ending` is None if the log is whole. Otherwise it says why the log ends where its records end."""
     records: Tuple[Record, ...]
     ending: Optional[LogRefused]
 
@@ -132,7 +132,7 @@ class Log:
 
 
 def read_log(log: Bytes) -> Log:
-    """All records of a log up to its end, or up to what is refused; an empty log is whole. It does not raise: ask for `ending`.
+    """All records of a log up to its end, or up to what is refused. An empty log is whole. This does not raise: look at `ending`.
 
     >>> read_log(b'')
     Log(records=(), ending=None)
@@ -155,7 +155,7 @@ def read_log(log: Bytes) -> Log:
 
 def rows(log: Bytes) -> List[Row]:
     """The rows of a whole log, one for each record, as `pandas.DataFrame` takes them. A log that is not whole raises `LogRefused`,
-    which hands over the rows before it. Add up with `sum(min_count=1)`: pandas' plain `sum()` of missing weights alone is 0.
+    which has the rows before the fault. Add up with `sum(min_count=1)`: if all weights are missing, pandas' plain `sum()` is 0.
 
     >>> rows(write_record(RefusalMet(1000, 4)))[0]['value'] is None
     True
@@ -167,8 +167,8 @@ def rows(log: Bytes) -> List[Row]:
 
 
 def row_of(record: Record) -> Row:
-    """A record as a row. Every row has the same keys. What a record does not have is None, which pandas shows as missing: of a
-    refusal that is everything but `time`, `kind` and `refusal`, so that an unread weight is never a number.
+    """A record as a row. Every row has the same keys. What a record does not have is None, which pandas shows as missing. For a
+    refusal, everything but `time`, `kind` and `refusal` is None. So an unread weight is never a number.
 
     `value` is in tenths of a milligram; `sign`, `digits` and `point` are as the terminal shows them.
     """

@@ -16,7 +16,7 @@ FRAME_ROOM = BODY_BYTES + 3 + BODY_BYTES
 
 HIGHEST_SERIAL_CROSSING = 2**32 - 1
 
-# A short address and a serial at once are no address. The library takes them for the short address 0, which no frame may carry.
+# A short address and a serial at once make no address. The library takes them for the short address 0, which no frame may carry.
 NO_ADDRESS = (1, 1)
 
 
@@ -65,8 +65,8 @@ class Address:
         return f'{self.short}' if self.serial is None else f'0:{self.serial}'
 
     def crossing(self) -> Tuple[int, int]:
-        """Short and serial as the library takes them, where short 0 says that the serial is the address. What cannot cross as
-        itself (the short address 0, numbers too high or below 0) crosses as no address, and the library refuses it."""
+        """Short and serial as the library takes them. Short 0 says that the serial is the address. What cannot cross as itself
+        (the short address 0, numbers too high or below 0) crosses as no address. The library refuses it."""
         if self.serial is not None:
             serial = operator.index(self.serial)
             return (0, serial) if 0 <= serial <= HIGHEST_SERIAL_CROSSING else NO_ADDRESS
@@ -83,8 +83,8 @@ def address_from(short: int, serial: int) -> Address:
 class Message:
     """A message. What its kind does not have is None, not 0.
 
-    `number` is a serial, NUM, status, the bits of inputs or outputs, EVENT, the converter's number or NER; `on` how many of the 32
-    inputs are on; `text` the characters of a text, or the six bytes of an event; `data` all data bytes of the body.
+    `number` is a serial, NUM, status, the bits of inputs or outputs, EVENT, the converter's number or NER. `on` is how many of the 32
+    inputs are on. `text` is the characters of a text, or the six bytes of an event. `data` is all data bytes of the body.
     """
     address: Address
     code: int

@@ -28,7 +28,7 @@ def meaning_of(number: int) -> str:
 
 
 class Refused(Exception):
-    """The library refused. `number` is the refusal's number, `meaning` what the paper says of it.
+    """The library refused. `number` is the refusal's number. `meaning` is what the paper says of it.
 
     >>> str(Refused(8))
     'refusal 8: a field outside its values'
@@ -47,7 +47,7 @@ class Refused(Exception):
 
 
 def accepted(answer: Any) -> Any:
-    """A struct that the library answered, once it is known that it says something; else its refusal is raised."""
+    """A struct that the library answered, if it was not refused. Otherwise its refusal is raised."""
     if answer.refusal:
         raise Refused(answer.refusal)
     return answer

@@ -1,4 +1,4 @@
-"""Weights: four bytes, what the terminal shows by them, and their exact value."""
+"""Weights: four bytes, what the terminal shows with them, and their exact value."""
 from __future__ import annotations
 
 from dataclasses import dataclass
@@ -27,7 +27,7 @@ class Reading:
 class Weight:
     """The four bytes of a weight, W0 W1 W2 CON, as the wire and the log have them.
 
-    Whatever is asked of bytes that are no weight raises `Refused` with number 8: it is never 0 and never another number.
+    If the bytes are no weight, every question about them raises `Refused` with number 8. The answer is never 0 and never another number.
 
     >>> weight = Weight.from_bytes(bytes.fromhex('51020001'))
     >>> weight.value, weight.kilograms_exact, weight.kilograms

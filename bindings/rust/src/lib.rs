@@ -1,7 +1,7 @@
 //! The quay reader for a poller in Rust: the Tenso-M line of a weighbridge terminal, read by the proved library `libquay.a`.
 //!
-//! **A weight that wasn't heard never looks like a weight of nothing.** What could be refused answers a `Result`, and its error is a
-//! [`Refusal`] with the rules paper's number; no weight here has a default.
+//! **A weight that wasn't heard never looks like a weight of nothing.** A function that can refuse answers a `Result`. Its error is a
+//! [`Refusal`] with the rules paper's number. No weight here has a default.
 //!
 //! ```
 //! use quay::{read_message, Event, Load, Reader, Role, Says};

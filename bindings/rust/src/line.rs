@@ -2,7 +2,7 @@
 use crate::raw;
 use crate::refusal::{judged, other_version, Refusal};
 
-/// The most bytes that a body has, its check with them.
+/// The most bytes that a body has, its check included.
 pub const LONGEST_BODY: usize = 255;
 
 /// A place on the wire: bytes since the reader started, modulo 2^64. It never stands in for a [`BodyPlace`].
@@ -16,7 +16,7 @@ pub struct BodyPlace(pub usize);
 /// What a reader listens for.
 #[derive(Clone, Copy, Debug, PartialEq, Eq, Hash)]
 pub enum Phase {
-    /// For an FF; other bytes are dropped.
+    /// For an FF. Other bytes are dropped.
     Seeking,
     /// For the first byte of a body.
     Delimited,
@@ -50,9 +50,9 @@ pub enum Event<'a> {
         /// Address, code, data and check.
         body: &'a [u8],
     },
-    /// A refusal met on the line: something was said, and it was not read.
+    /// A refusal met on the line: something came, and it was not read.
     Refused {
-        /// Which.
+        /// Which refusal.
         why: Refusal,
         /// The place on the wire of the byte that gave it.
         wire: WirePlace,
@@ -88,7 +88,7 @@ impl<'a> Event<'a> {
     }
 }
 
-/// A listener of one line. It holds no more than where it stands and the 255 bytes of a body.
+/// A listener of one line. It holds only its place and the 255 bytes of a body.
 #[derive(Clone, Debug)]
 pub struct Reader {
     place: raw::QuayPlace,
@@ -135,7 +135,7 @@ impl Reader {
         &self.body
     }
 
-    /// A block in: its events, one after another. However the bytes are cut into blocks, the events are the same.
+    /// Takes a block in and gives its events, one after another. However the bytes are cut into blocks, the events are the same.
     ///
     /// ```
     /// use quay::{Event, Reader, WirePlace};
@@ -156,7 +156,7 @@ impl Default for Reader {
     }
 }
 
-/// The events of a block. Each lends the reader's own bytes, so it is done with before the next is asked for:
+/// The events of a block. Each event lends the reader's own bytes. So you must be done with it before you ask for the next:
 /// `while let Some(event) = events.next()`.
 #[derive(Debug)]
 #[must_use = "a block is heard only as its events are asked for, to the last"]
@@ -166,13 +166,13 @@ pub struct Events<'a> {
 }
 
 impl Events<'_> {
-    /// The next event, or none: then the whole block is taken.
-    // No `Iterator`: its items could be kept while the reader's bytes change under them.
+    /// The next event, or none when the whole block is taken.
+    // This is no `Iterator`: its items could be kept while the reader's bytes change under them.
     #[allow(clippy::should_implement_trait)]
     pub fn next(&mut self) -> Option<Event<'_>> {
         let went = raw::listen(self.reader.place, self.rest, &mut self.reader.body);
         if judged(went.refusal).is_err() {
-            // Only for a phase that there is not, and a reader has none such.
+            // This would only be for a phase that does not exist, and a reader has no such phase.
             other_version("refusal of a reader's own place", went.refusal);
         }
         self.reader.place = went.place;
@@ -180,7 +180,7 @@ impl Events<'_> {
         Event::crossed(went.event, &self.reader.body)
     }
 
-    /// The bytes of the block that are not taken yet. Who stops early feeds them first when he goes on.
+    /// The bytes of the block that are not taken yet. A caller who stops early feeds them first when he goes on.
     ///
     /// ```
     /// let mut reader = quay::Reader::new();

@@ -4,7 +4,7 @@ use crate::raw;
 use crate::refusal::{judged, other_version, Refusal};
 use crate::writing::length_written;
 
-/// No line of a listing is longer, its newline with it.
+/// The longest line of a listing, its newline included.
 pub const LONGEST_LINE: usize = 85;
 
 /// What was listed.
@@ -21,7 +21,7 @@ pub enum Entry {
 /// A line that was written.
 #[derive(Clone, Copy, Debug, PartialEq, Eq, Hash)]
 pub struct Listed {
-    /// Its length, with its newline.
+    /// Its length, newline included.
     pub length: usize,
     /// What it tells, for the counts of the total.
     pub entry: Entry,
@@ -39,7 +39,7 @@ pub struct Total {
 }
 
 impl Total {
-    /// One more event, told by what was listed of it.
+    /// Counts one more event, by what was listed of it.
     pub fn count(&mut self, entry: Entry) {
         self.events = self.events.wrapping_add(1);
         match entry {
@@ -50,8 +50,8 @@ impl Total {
     }
 }
 
-/// The line of an event, which is read as a reply, into lent room; or 9, and the room as it stood. Events are numbered from 1. The body of a
-/// frame is judged again, check and all: bytes that nobody heard list as the refusal they earn.
+/// Writes the line of an event into lent room. The event is read as a reply. If the line is refused by 9, the room is as it stood.
+/// Events are numbered from 1. The body of a frame is judged again, check and all: bytes that nobody heard list as the refusal they earn.
 ///
 /// ```
 /// use quay::{list_event, Entry, Event, Refusal, WirePlace};
@@ -75,7 +75,7 @@ pub fn list_event(number: u64, event: Event<'_>, room: &mut [u8]) -> Result<List
     Ok(Listed { length: listed.length, entry })
 }
 
-/// The last line of a listing: its length, or 9, and the room as it stood.
+/// Writes the last line of a listing and answers its length. If it is refused by 9, the room is as it stood.
 ///
 /// ```
 /// use quay::{list_total, Refusal, Total};

@@ -10,12 +10,12 @@ use crate::refusal::{judged, other_version, Refusal};
 use crate::weights::Weight;
 use crate::writing::length_written;
 
-/// The bytes of a record.
+/// How many bytes a record has.
 pub const RECORD_LENGTH: usize = 20;
 
 const REFUSED: u8 = 3;
 
-/// A weight byte of what is no weighing.
+/// The weight byte of a record that is no weighing.
 const NO_DIGITS: u8 = 255;
 
 /// A record of a log.
@@ -27,7 +27,7 @@ pub struct Record {
     pub noted: Noted,
 }
 
-/// What a record notes. A refusal has no weight bytes to take for a weight.
+/// What a record notes. A refusal has no weight bytes that could be taken for a weight.
 #[derive(Clone, Copy, Debug, PartialEq, Eq, Hash)]
 pub enum Noted {
     /// A weight that was said.
@@ -43,12 +43,12 @@ pub enum Noted {
     Refused(Refusal),
 }
 
-/// Where a log is not whole, and why: 10 for bytes left over, 11 for a record that breaks a rule.
+/// Where and why a log is not whole: 10 for bytes left over, 11 for a record that breaks a rule.
 #[derive(Clone, Copy, Debug, PartialEq, Eq, Hash)]
 pub struct Broken {
     /// 10 or 11.
     pub why: Refusal,
-    /// The byte where it begins; all records before it were good.
+    /// The byte where the fault begins. All records before it were good.
     pub place: usize,
 }
 
@@ -83,7 +83,7 @@ impl Record {
         }
     }
 
-    /// A record, none, or why it is refused.
+    /// A record, no record, or why it is refused.
     fn crossed(item: raw::QuayRecord) -> Result<Option<Record>, Refusal> {
         judged(item.refusal)?;
         let noted = match (item.kind, Load::of_number(item.kind), Refusal::of_number(item.status)) {
@@ -100,7 +100,8 @@ impl Record {
     }
 }
 
-/// A record into lent room: its length, 20, or 11, 9 in that order. A refused write leaves every lent byte as it stood.
+/// Writes a record into lent room and answers its length, 20. Refusals: 11, 9 in that order.
+/// A refused write leaves every lent byte as it stood.
 ///
 /// ```
 /// use quay::{write_record, Noted, Record, Refusal};
@@ -114,7 +115,7 @@ pub fn write_record(record: Record, room: &mut [u8]) -> Result<usize, Refusal> {
     length_written(raw::write_record(record.crossing(), room))
 }
 
-/// The record of 20 bytes, or 11.
+/// Reads the record of 20 bytes, or refuses by 11.
 ///
 /// ```
 /// use quay::{read_record, Address, Load, Noted, Refusal, Weight};
@@ -133,7 +134,7 @@ pub fn read_record(bytes: &[u8]) -> Result<Record, Refusal> {
     }
 }
 
-/// One step through a log from a place: its record and the place behind it, none at the end, or 10, 11.
+/// One step through a log from a place: the record there and the place after it, or none at the end. Refusals: 10, 11.
 ///
 /// ```
 /// assert_eq!(quay::step(&[], 0), Ok(None));
@@ -145,7 +146,7 @@ pub fn step(log: &[u8], place: usize) -> Result<Option<(Record, usize)>, Refusal
     Ok(record.map(|record| (record, stepped.next)))
 }
 
-/// The records of a log from its front. One that is not whole ends in the refusal and its place; what follows it is not read.
+/// The records of a log from its front. A log that is not whole ends in the refusal and its place. What follows is not read.
 ///
 /// ```
 /// use quay::{records, write_record, Broken, Noted, Record, Refusal};
@@ -199,8 +200,8 @@ impl Iterator for Records<'_> {
 
 impl core::iter::FusedIterator for Records<'_> {}
 
-/// The record that an event makes, read in a role; none for a message that is no weight reply. What was refused on the line, or in
-/// its message, makes a record of the refusal; a refusal above 8 is not met there, and is refused by 8.
+/// The record that an event makes, read in a role. A message that is no weight reply makes none. What was refused on the line, or in
+/// its message, makes a record of the refusal. A line meets no refusal above 8: an event with one is refused by 8.
 ///
 /// ```
 /// use quay::{record_heard, Event, Noted, Record, Refusal, Role, WirePlace};

@@ -27,11 +27,11 @@ impl Load {
 /// What a message says.
 #[derive(Clone, Copy, Debug, PartialEq, Eq, Hash)]
 pub enum Says<'a> {
-    /// Nothing beside its code.
+    /// Nothing but its code.
     Nothing,
     /// The terminal's serial number.
     Serial(u32),
-    /// The number of a text or a printer that is asked for.
+    /// The number of the text or the printer that is asked for.
     Number(u8),
     /// A status.
     Status(u8),
@@ -55,7 +55,7 @@ pub enum Says<'a> {
     Text {
         /// Its number.
         number: u8,
-        /// Its characters; there may be none.
+        /// Its characters. There may be none.
         text: &'a [u8],
     },
     /// An event of the terminal.
@@ -84,7 +84,7 @@ pub struct Message<'a> {
     pub says: Says<'a>,
 }
 
-/// A body read in a role, or 2, 1, 4, 5, 6, 7, 8 in that order.
+/// Reads a body in a role. Refusals: 2, 1, 4, 5, 6, 7, 8 in that order.
 ///
 /// ```
 /// use quay::{read_message, Address, Load, Refusal, Role, Says, Weight};

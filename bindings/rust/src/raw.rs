@@ -1,7 +1,7 @@
 //! The fourteen functions of `libquay.a` and their structs, field by field as `crates/crossing` and `crates/quay_*` have them.
 //!
-//! A lent slice crosses as its pointer and its length. That every value of every field has a defined answer is the library's proved
-//! promise, so each cover below is safe to call with anything.
+//! A lent slice crosses as its pointer and its length. The library promises, and it is proved, that every value of every field has a defined
+//! answer. So each function below, which covers one of the library's, is safe to call with anything.
 
 /// Where a reader stands. All zeros are a fresh reader.
 #[derive(Clone, Copy, Debug)]
@@ -126,7 +126,7 @@ pub struct QuayListed {
     pub refusal: u8,
 }
 
-/// The size of a struct and the place of each field, checked when this is compiled: a field out of its place would be read as another.
+/// Checks the size of a struct and the place of each field when this is compiled. A field out of its place would be read as another.
 macro_rules! laid_out {
     ($name:ident, $size:literal: $($field:ident $place:literal),+) => {
         const _: () = assert!(core::mem::size_of::<$name>() == $size);
@@ -148,7 +148,7 @@ laid_out!(QuayRecord, 24: time 0, serial 8, kind 12, address 13, status 14, w0 1
 laid_out!(QuayStepped, 32: item 0, next 24);
 laid_out!(QuayListed, 16: length 0, entry 8, refusal 9);
 
-// One line each, as a C header has them.
+// Each declaration is one line, as in a C header.
 #[rustfmt::skip]
 extern "C" {
     fn quay_listen(place: QuayPlace, block: *const u8, block_length: usize, body: *mut [u8; 255]) -> QuayWent;
@@ -221,7 +221,7 @@ pub fn read_record(bytes: &[u8]) -> QuayRecord {
 }
 
 pub fn step(log: &[u8], place: usize) -> QuayStepped {
-    // SAFETY: the log is borrowed with its own length and only read; a place past its end is its end.
+    // SAFETY: the log is borrowed with its own length and only read. A place past its end counts as its end.
     unsafe { quay_step(log.as_ptr(), log.len(), place) }
 }
 

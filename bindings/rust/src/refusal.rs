@@ -54,7 +54,7 @@ impl Refusal {
         self as u8
     }
 
-    /// The refusal that has a number, if one has it.
+    /// The refusal with this number, if there is one.
     ///
     /// ```
     /// use quay::Refusal;
@@ -91,7 +91,7 @@ impl fmt::Display for Refusal {
 
 impl Error for Refusal {}
 
-/// What the field `refusal` of an answer says: 0 is none.
+/// What the field `refusal` of an answer says. 0 is no refusal.
 pub(crate) fn judged(number: u8) -> Result<(), Refusal> {
     if number == 0 {
         return Ok(());
@@ -102,7 +102,7 @@ pub(crate) fn judged(number: u8) -> Result<(), Refusal> {
     }
 }
 
-/// The proved library never answers such a number. An archive that does is a later one, and going on would be guessing at a weight.
+/// The proved library never answers such a number. An archive that does so is a later one. To go on would be to guess at a weight.
 #[cold]
 pub(crate) fn other_version(field: &str, number: u8) -> ! {
     panic!("libquay.a answers {field} {number}, which this crate does not know: they are not of one version")

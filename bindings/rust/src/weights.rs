@@ -4,7 +4,7 @@ use crate::refusal::{judged, Refusal};
 
 /// The four bytes of a weight as the wire and the log have them: W0 W1 W2 CON.
 ///
-/// Any four bytes can be held; whether they are a weight is told by each use. There is no default: no bytes stand for a weight that
+/// It can hold any four bytes. Each use tells whether they are a weight. There is no default: no bytes stand for a weight that
 /// was not heard.
 #[derive(Clone, Copy, Debug, PartialEq, Eq, Hash)]
 pub struct Weight(pub [u8; 4]);
@@ -16,7 +16,7 @@ pub struct Reading {
     pub number: u32,
     /// How many of them stand after the point, 0 to 7.
     pub point: u8,
-    /// The sign bit: minus zero has it too.
+    /// The sign bit. Minus zero has it too.
     pub minus: bool,
     /// A bit on which the documents disagree.
     pub bit6: bool,
@@ -63,7 +63,7 @@ impl Weight {
         tenths(raw::value(self.crossing()))
     }
 
-    /// This weight as gross, less the net one, in tenths of a milligram, or 8. It may be negative.
+    /// Gross less net in tenths of a milligram, or 8. This weight is the gross one. The difference may be negative.
     ///
     /// ```
     /// use quay::Weight;

@@ -3,9 +3,9 @@ use crate::addresses::{Address, Role};
 use crate::raw;
 use crate::refusal::{judged, Refusal};
 
-/// The frame of an address, a code and data; the check is worked out here. Its length, or 5, 2, 9 in that order.
+/// Writes the frame of an address, a code and data, and answers its length. The check is worked out here. Refusals: 5, 2, 9 in that order.
 ///
-/// A refused write leaves every lent byte as it stood; an accepted one changes only its own length of bytes.
+/// A refused write leaves every lent byte as it stood. An accepted one changes only its own length of bytes.
 ///
 /// ```
 /// use quay::{write_frame, Address, Refusal};
@@ -20,7 +20,8 @@ pub fn write_frame(address: Address, code: u8, data: &[u8], room: &mut [u8]) -> 
     length_written(raw::write_frame(short, serial, code, data, room))
 }
 
-/// The frame of a message, in a role. Its length, or 5, 6, 7, 8, 2, 9 in that order; the room as in [`write_frame`].
+/// Writes the frame of a message in a role, and answers its length. Refusals: 5, 6, 7, 8, 2, 9 in that order.
+/// The room is left as by [`write_frame`].
 ///
 /// ```
 /// use quay::{write_message, Address, Refusal, Role};

@@ -32,7 +32,7 @@ unfoldable pub addressLength : Address → ℕ
 addressLength (Short address) = 1
 addressLength (Serial serial) = 4
 
--- an address as two numbers: its first byte on the wire, and its serial, zero for a short one
+-- an address as two numbers: its first byte on the wire, and its serial, which is zero for a short address
 abbrev pub firstByte : Address → ℕ
 firstByte (Short address) = address
 firstByte (Serial serial) = 0

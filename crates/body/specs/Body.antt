@@ -1,5 +1,5 @@
 -- 01, "The frame": "A body is: address, operation code, data, check. It has at most 255 bytes."
--- "What the answers mean": "At a body's end the order is 1, 4, 5"; a lent body is judged 2 (over 255 bytes) ahead of them.
+-- "What the answers mean": "At a body's end the order is 1, 4, 5". A lent body is judged 2 (over 255 bytes) ahead of them.
 use Prim.Native.Nat.{ℕ, _+_, _-_}
 use mathlib.Core.Bool.{Bool, not, _&&_, _||_}
 use mathlib.Core.List.{List, [], _∷_, _++_}
@@ -37,7 +37,7 @@ short body = ltb (length body) 3 || (eqb (getD body 0 0) 0 && ltb (length body) 
 abbrev pub checkRight : List ℕ → Bool
 checkRight body = eqb (received body) 0
 
--- a body that ended, given whether its check is right: 1, 4, 5
+-- a body that ended, judged 1, 4, 5; an argument says whether its check is right
 abbrev pub judgedIf : Bool → List ℕ → Verdict
 judgedIf right body =
     refuseIf (short body) BodyShort
@@ -48,7 +48,7 @@ judgedIf right body =
 unfoldable pub judged : List ℕ → Verdict
 judged body = judgedIf (checkRight body) body
 
--- a body that was lent: 2 ahead of them
+-- a body that was lent: 2 is judged ahead of them
 abbrev pub judgedLentIf : Bool → List ℕ → Verdict
 judgedLentIf right body = refuseIf (ltb longest (length body)) BodyLong (judgedIf right body)
 
@@ -70,7 +70,7 @@ abbrev pub opening : Verdict → Parts → Opened
 opening Good parts = opened-as.Parts parts
 opening (Refused why) parts = opened-as.Refused why
 
--- given whether its check is right: a body that a line handed out had a right one, and it isn't made again
+-- the same; an argument says whether the check is right. A body that a line handed out had a right one, so it isn't tested again
 unfoldable pub openedIf : Bool → List ℕ → Opened
 openedIf right body = opening (judgedLentIf right body) (partsOf body)
 

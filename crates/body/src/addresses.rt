@@ -7,7 +7,7 @@ pub enum Address {
     Serial(u32),
 }
 
-// The highest short address, and the highest serial: three bytes of it.
+// The highest short address, and the highest serial, which has three bytes.
 const HIGHEST_SHORT: u8 = 0x9F;
 
 const HIGHEST_SERIAL: u32 = 16_777_215;

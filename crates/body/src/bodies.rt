@@ -1,4 +1,4 @@
-// What a body is: address, operation code, data, check. How one is judged, and where in it each part stands.
+// What a body is: address, operation code, data, check. How a body is judged, and where each part stands in it.
 use crate::addresses::Address;
 use crate::addresses::legal;
 use check_byte::feed_all;
@@ -14,7 +14,7 @@ ghost use Rattle.body.specs.Body.{short, checkRight, judgedLentIf, judge
 // The most bytes a body has, its check among them. Delimiters and inserted FE bytes aren't counted.
 pub const LONGEST_BODY: usize = 255;
 
-// The parts of a body. Its data are the bytes from place `from` up to, not including, place `to`, where the check stands.
+// The parts of a body. Its data are the bytes from place `from` up to but not including place `to`. The check stands at `to`.
 pub struct Parts {
     pub address: Address,
     pub code: u8,
@@ -70,7 +70,7 @@ pub fn check_right(body: &[u8]) -> bool
     feed_all(0, body) == 0
 }
 
-// A lent body judged 2, 1, 4, 5, told whether its check is right.
+// A lent body judged 2, 1, 4, 5. An argument tells whether its check is right.
 fn judge_told(right: bool, body: &[u8]) -> Verdict
     ensures { λ r. ⌜ r ≡ judgedLentIf right (now (body .entry)) ⌝ }
 {
@@ -89,7 +89,7 @@ fn judge_told(right: bool, body: &[u8]) -> Verdict
     Verdict::Refused(Refusal::AddressIllegal)
 }
 
-// A lent body judged 2, 1, 4, 5. One that a line kept has at most 255 bytes: of it this is 1, 4, 5.
+// A lent body judged 2, 1, 4, 5. A body that a line kept has at most 255 bytes, so for it the order is 1, 4, 5.
 pub fn judge(body: &[u8]) -> Verdict
     ensures { λ r. ⌜ r ≡ judgedLent (now (body .entry)) ⌝ }
 {
@@ -110,8 +110,8 @@ fn parts_of(body: &[u8]) -> Parts
     }
 }
 
-// A lent body, judged 2, 1, 4, 5 and taken apart, without making its check: whether that is right is told. The check of a body that a
-// line handed out was found right there.
+// A lent body, judged 2, 1, 4, 5 and taken apart. An argument tells whether its check is right, and this function does not test it. The
+// line has found the check right in a body that it handed out.
 pub fn open_without_check(right: bool, body: &[u8]) -> Opened
     ensures { λ r. ⌜ r ≡ openedIf right (now (body .entry)) ⌝ }
 {

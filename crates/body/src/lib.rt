@@ -1,4 +1,4 @@
-// The body: what an address is, what a body is and how one is judged, and where in it each part stands (01, "The frame").
+// The body: what an address is, what a body is, how a body is judged, and where each part stands in it (01, "The frame").
 mod addresses;
 mod bodies;
 

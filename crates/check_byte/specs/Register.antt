@@ -7,7 +7,7 @@ use mathlib.Core.List.{List, [], _∷_}
 use lib.Bits.{bitXor}
 use lib.Dec.{ltb}
 
--- one bit enters the register of eight; where the bit that falls out is 1, 69h is folded in
+-- one bit enters the register of eight; if the bit that falls out is 1, 69h is folded in
 unfoldable pub shiftIn : ℕ → ℕ → ℕ
 shiftIn register bit = cond (ltb register 128) (register * 2 + bit) (bitXor ((register - 128) * 2 + bit) 0x69)
 
@@ -29,6 +29,6 @@ feedAll register (byte ∷ rest) = feedAll (feedByte register byte) rest
 unfoldable pub received : List ℕ → ℕ
 received body = feedAll 0 body
 
--- the check of the bytes to be sent: all of them and one zero byte
+-- the check of the bytes to be sent: all of them are fed, and one zero byte
 unfoldable pub checkOf : List ℕ → ℕ
 checkOf bytes = feedByte (feedAll 0 bytes) 0

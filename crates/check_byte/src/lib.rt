@@ -3,7 +3,7 @@ ghost use mathlib.Core.Path.{_≡_};
 ghost use Rattle.check_byte.specs.Register.{shiftIn, feedByte, feedAll, checkOf};
 ghost use Prim.Native.Nat.{_<_, _/_, _%_, _^_};
 
-// One bit into the register, with a ninth place for the bit that falls out: where that is 1, 169h takes it away and folds in 69h.
+// One bit enters the register. A ninth place holds the bit that falls out. If that bit is 1, 169h takes it away and folds in 69h.
 fn shift_in(register: u32, bit: u32) -> u32
     requires { ⌜ (register < 256) × (bit < 2) ⌝ }
     ensures { λ r. ⌜ (r ≡ shiftIn register bit) × (r < 256) ⌝ }
@@ -56,7 +56,7 @@ pub fn feed_all(register: u8, bytes: &[u8]) -> u8
     fed
 }
 
-// The check of the bytes to be sent: all of them are fed, and one zero byte.
+// The check of the bytes to be sent. All of them are fed, and then one zero byte.
 pub fn check_of(bytes: &[u8]) -> u8
     ensures { λ r. ⌜ r ≡ checkOf (now (bytes .entry)) ⌝ }
 {

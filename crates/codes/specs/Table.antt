@@ -1,5 +1,5 @@
--- 01, "Messages": the table, for each code what its data are in a request and in a reply. Reading, writing and the laws go by `rowOf` and
--- name no code: a code is added, changed or retired in its line here.
+-- 01, "Messages": the table. It says for each code what its data are in a request and in a reply. Reading, writing and the laws use `rowOf`
+-- and name no code. So a code is added, changed or retired in its line here.
 use Prim.Native.Nat.{ℕ}
 use mathlib.Core.Bool.{Bool, true, false, cond, _||_}
 use mathlib.Core.List.{List, [], _∷_}

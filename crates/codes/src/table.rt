@@ -21,7 +21,7 @@ pub enum Num {
     Devices, // 01, 02, 03, 13, 20, or E0 to FF
 }
 
-// What the data of a message are. A row knows no code: one that says the same in two lines stands in both.
+// What the data of a message are. A row knows no code. If two lines have the same data, one row stands in both.
 pub enum Row {
     Unknown, // not in the table
     Empty, // none
@@ -46,7 +46,7 @@ pub enum Length {
     Counted, // 2 and as many as the second byte says
 }
 
-// The line of a code. No other place of the code names one: a code is added, changed or retired in its line.
+// The line of a code. No other place in the source names a code. So a code is added, changed or retired in its line here.
 fn line_of(code: u8) -> Line
     ensures { λ r. ⌜ r ≡ lineOf code ⌝ }
 {

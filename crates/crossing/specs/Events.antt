@@ -10,12 +10,12 @@ use Rattle.crossing.specs.declared.events.QuayEvent.{QuayEvent}
 use Rattle.crossing.specs.declared.events.Given.{Given}
 use Rattle.crossing.specs.declared.events.Given.the-variants as given-as
 
--- a refusal handed in by its number; 8 where there is none with that number
+-- a refusal handed in by its number; 8 if no refusal has that number
 abbrev pub givenAs : Named → QuayEvent → Given
 givenAs (named-as.Refusal why) event = given-as.Event (Refused why (record { 0 = event .wire }) (record { 0 = event .kept }))
 givenAs named-as.Unknown event = given-as.Refused FieldOutside
 
--- an event handed in; 8 where there is none of that kind, and where no line can meet its refusal
+-- an event handed in; 8 if its kind does not exist, and if no line can meet its refusal
 unfoldable pub eventFrom : QuayEvent → Given
 eventFrom event =
     cond (eqb (event .kind) 0) (given-as.Event Nothing)

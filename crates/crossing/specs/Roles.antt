@@ -7,6 +7,6 @@ use Rattle.codes.specs.declared.table.Role.the-variants.{Request, Reply}
 use Rattle.crossing.specs.declared.roles.Asked.{Asked}
 use Rattle.crossing.specs.declared.roles.Asked.the-variants as asked-as
 
--- 0 is a request, 1 a reply; 8 where there is none of that number
+-- 0 is a request, 1 a reply; any other number is 8
 unfoldable pub roleFrom : ℕ → Asked
 roleFrom number = cond (eqb number 0) (asked-as.Role Request) (cond (eqb number 1) (asked-as.Role Reply) (asked-as.Refused FieldOutside))

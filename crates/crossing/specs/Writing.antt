@@ -1,4 +1,4 @@
--- Writes across: what the layers below write, its verdict as a number, and every lent byte as they leave it.
+-- Writes for another language: what the layers below write, with the verdict as a number, and every lent byte as they leave it.
 use Prim.Native.Nat.{ℕ}
 use mathlib.Core.Path.{_≡_}
 use mathlib.Core.List.{List}

@@ -13,12 +13,12 @@ ghost use Rattle.crossing.specs.Events.{givenAs, eventFrom};
 #[repr(C)]
 pub struct QuayEvent {
     pub wire: u64, // the place on the wire
-    pub kept: usize, // the place in the body; of a frame, how many bytes its body has
+    pub kept: usize, // the place in the body; for a frame, how many bytes its body has
     pub kind: u8, // 0 nothing, 1 a frame, 2 a refusal
     pub refusal: u8, // the number of a refusal met on the line
 }
 
-// An event that was handed in, or why it is none.
+// An event that was handed in, or why it is no event.
 pub enum Given {
     Event(Event),
     Refused(Refusal),

@@ -1,4 +1,4 @@
-// What crosses to another language in more than one place: events, roles, weights and the answer of a write, as numbers and small structs by value.
+// What several exported functions share: events, roles, weights and the answer of a write, as numbers and small structs by value.
 mod events;
 mod roles;
 mod weights;

@@ -4,7 +4,7 @@ use refusal::Refusal;
 ghost use mathlib.Core.Path.{_≡_};
 ghost use Rattle.crossing.specs.Roles.{roleFrom};
 
-// A role that was handed in, or why it is none.
+// A role that was handed in, or why it is no role.
 pub enum Asked {
     Role(Role),
     Refused(Refusal),

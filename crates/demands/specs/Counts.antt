@@ -1,5 +1,5 @@
 -- 01, "The frame": "Each event carries two counts that must never stand in for each other: the place on the wire and the place in the body."
--- For every state handed in, whatever it counts and keeps, and for every byte and every list of bytes taken from there.
+-- This holds for every state handed in, whatever it counts and keeps, and for every byte and every list of bytes taken from there.
 use Prim.Native.Nat.{ℕ, _+_, _%_, _^_, _≤_}
 use mathlib.Core.Path.{_≡_}
 use mathlib.Core.List.{List, List·Memᴰ}
@@ -20,7 +20,7 @@ Within (refused why wire kept) = (kept ≤ longest) × (why ≡ BodyLong → kep
 abbrev pub CountsWithin : Type 0
 CountsWithin = (reader : Reader) (bytes : List ℕ) (heard : Heard) → List·Memᴰ heard (events (view reader) bytes) → Within heard
 
--- an event, refusals too, carries these two counts
+-- the two counts that an event carries, a refusal too
 abbrev pub Carries : ℕ → ℕ → Heard → Type 0
 Carries taken size nothing = Unit {0}
 Carries taken size (frame wire kept body) = (wire ≡ taken) × (kept ≡ size)

@@ -1,5 +1,5 @@
--- 01, "Judged examples": E1 to E8 as one table under one claim: the bytes, what is heard of them from fresh with both counts, what the bodies
--- say in a role, the values of the weights among them, and that each body's frame is the bytes again.
+-- 01, "Judged examples": E1 to E8 as one table under one claim. The table has the bytes, what a fresh listener hears of them with both counts,
+-- what the bodies say in a role, and the values of the weights among them. The claim also says that each body's frame is the bytes again.
 use Prim.Native.Nat.{ℕ}
 use mathlib.Core.Path.{_≡_}
 use mathlib.Core.Bool.{true, false}
@@ -70,11 +70,11 @@ asSent example = map (λ (body : List ℕ). example .bytes) (bodiesOf (example .
 abbrev pub from1 : ℕ → ℕ → What → Received
 from1 code to what = received-as.Message (record { address = Short 1; code = code; from = 2; to = to; what = what })
 
--- body 01, then so many zeros, then a check
+-- body 01, then some zeros, then a check
 abbrev pub zeros : ℕ → ℕ → List ℕ
 zeros count check = 0x01 ∷ (replicate count 0 ++ (check ∷ []))
 
--- E8's second half, "with one zero more": 256 bytes, its check the right one
+-- E8's second half, "with one zero more": 256 bytes, with the right check
 abbrev pub oneZeroMore : List ℕ
 oneZeroMore = zeros 254 0x01
 
@@ -116,8 +116,8 @@ examples =
     ∷ record { bytes = 0xFF ∷ (oneZeroMore ++ (0xFF ∷ 0xFF ∷ [])); heard = refused BodyLong 257 255 ∷ []; role = Reply; said = []; values = [] }
     ∷ []
 
--- the one claim: what is heard, said and weighed is what the table says, what was heard whole is written as it was sent, and the body that is
--- refused for its length alone has 256 bytes and the right check
+-- the one claim. What is heard, said and weighed is what the table says. What was heard whole is written as it was sent. The body that is
+-- refused only for its length has 256 bytes and the right check.
 pub record JudgedExamples : Type 0 where
   pub read : map computed examples ≡ examples
   pub written : map framedAgain examples ≡ map asSent examples

@@ -15,7 +15,7 @@ use Rattle.records.specs.Stepping.{wholeLog, bytesOfLog}
 use Rattle.demands.specs.Examples.{Example, examples}
 use Rattle.demands.specs.Weighings.{recordsHeard}
 
--- a whole log is the bytes of its records, one behind the other: it holds nothing else
+-- a whole log is the bytes of its records, one behind the other, and nothing else
 abbrev pub WholeLogAgain : Type 0
 WholeLogAgain = (log : List ℕ) → T (areBytes log) → wholeLog log .ending ≡ Good → bytesOfLog (wholeLog log .records) ≡ log
 
@@ -25,8 +25,8 @@ LineLogWhole =
     (time : ℕ → ℕ) → ((number : ℕ) → time number < 2 ^ 64) → (role : Role) (heard : List Heard)
     → wholeLog (bytesOfLog (recordsHeard time role heard)) ≡ record { records = recordsHeard time role heard; ending = Good }
 
--- the events of the judged examples, one after the other, read as replies and noted at the times 1, 2, 3 ..: E1 and E2 are requests, and no replies
--- of their codes (7); E3 and E4 are weighings; E5 makes no record; of E8 the first says no code of the table (6)
+-- the events of the judged examples, one after the other, read as replies and noted at the times 1, 2, 3 ... E1 and E2 are requests; as replies
+-- their length is wrong (7). E3 and E4 are weighings. E5 makes no record. The first body of E8 has no code of the table (6).
 abbrev pub ExamplesNoted : Type 0
 ExamplesNoted =
     recordsHeard (λ (number : ℕ). number) Reply (flatten (map (λ (example : Example). example .heard) examples))

@@ -1,5 +1,5 @@
--- Block feeding, as everybody runs it: feed the block, note what it told, drop what was used, feed the rest; where nothing is left of a block,
--- the next one. Whatever the blocks, the loop comes to its end, has told what the bytes tell, and demand 3 holds of it.
+-- Block feeding, as everybody runs it: feed the block, note what it told, drop what was used, feed the rest. If nothing is left of a block,
+-- take the next one. Whatever the blocks are, the loop ends and has told what the bytes tell. Demand 3 holds of it.
 use Prim.Native.Nat.{ℕ}
 use mathlib.Core.Path.{_≡_}
 use mathlib.Core.List.{List, [], _∷_, flatten}
@@ -12,7 +12,7 @@ use Rattle.line.specs.Readers.{heardAs, fed, fedLent, freshPlace, freshReader}
 use Rattle.demands.specs.Reading.{afterBytes, heardBy}
 use Rattle.demands.specs.Wire.{Sent, AllShared, wireOf, heardOf}
 
--- one call over a block: `Reader::feed` is `fed`, and `Place::listen` is this, where a place with the array lent beside it is a reader
+-- one call over a block: `Reader::feed` is `fed`, and `Place::listen` is this; a place with the array lent beside it makes a reader
 abbrev pub listened : Reader → List ℕ → Fed
 listened reader block = fedLent (reader .place) block (reader .body)
 
@@ -25,7 +25,7 @@ pub data Loop (call : Reader → List ℕ → Fed) : Reader → List (List ℕ) 
       → Loop call (answer .reader) (drop (answer .used) (byte ∷ block) ∷ blocks) later left
       → Loop call reader ((byte ∷ block) ∷ blocks) (heardThen (heardAs (answer .event) (answer .reader .body)) later) left
 
--- who runs the loop comes to its end, and is told this and left with this reader, and with no other
+-- the loop ends, tells its caller this and leaves him this reader, and no other
 pub record LoopTells (call : Reader → List ℕ → Fed) (reader : Reader) (blocks : List (List ℕ)) (told : List Heard) (left : Reader) : Type 0 where
   pub comes : Loop call reader blocks told left
   pub only : (other : List Heard) (end : Reader) → Loop call reader blocks other end → (other ≡ told) × (end ≡ left)

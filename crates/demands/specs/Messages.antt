@@ -1,5 +1,5 @@
--- Demand 2 at the message layer, over every role, address, code and data: what is written reads back as the same message; each message that
--- is accepted gives back its own body bytes when written again with its own role, address, code and data; and a message is refused by 6, 7, 8
+-- Demand 2 at the message layer, over every role, address, code and data. What is written reads back as the same message. Each message that
+-- is accepted gives back its own body bytes when written again with its own role, address, code and data. A message is refused by 6, 7, 8
 -- exactly as the table says.
 use Prim.Native.Nat.{ℕ, _≤_}
 use mathlib.Core.Path.{_≡_}
@@ -31,11 +31,11 @@ use Rattle.message.specs.Writing.{judgedMessageWrite, writtenMessage}
 
 -- ---- "what is written reads back as the same message"
 
--- the bytes that a write answers for: the first of the room, as many as the answered length
+-- the bytes that a write has written: the first bytes of the room, as many as the answered length
 abbrev pub writtenBytes : Left → List ℕ
 writtenBytes left = take (left .answer .length) (left .room)
 
--- some bytes are heard from fresh as one frame, whose body reads as a message with these parts
+-- a fresh listener hears some bytes as one frame, and its body reads as a message with these parts
 pub record ReadsAs (role : Role) (address : Address) (code : ℕ) (data′ bytes : List ℕ) : Type 0 where
   pub heard : events fresh bytes ≡ frame (needed (bodyOf address code data′)) (length (bodyOf address code data′)) (bodyOf address code data′) ∷ []
   pub message : readMessage role (bodyOf address code data′) ≡ received-as.Message (messageOf role address code data′)
@@ -64,7 +64,7 @@ AcceptedWritesBack =
 abbrev pub ExactlyWhere : Type 0 → Type 0 → Type 0
 ExactlyWhere claim other = (claim → other) × (other → claim)
 
--- of three tests, the first that fails refuses: 6, 7, 8 in this order; where all three hold, what is judged after them decides
+-- the first of three tests that fails refuses: 6, 7, 8 in this order; if all three hold, what is judged after them decides
 pub record FirstToFail (known sized right : Bool) (after verdict : Verdict) : Type 0 where
   pub unknown : ExactlyWhere (verdict ≡ Refused CodeUnknown) (known ≡ false)
   pub wrong-length : ExactlyWhere (verdict ≡ Refused LengthWrong) ((known ≡ true) × (sized ≡ false))
@@ -75,7 +75,7 @@ abbrev pub AsTheTableSays : Role → ℕ → List ℕ → Verdict → Verdict �
 AsTheTableSays role code data′ =
     FirstToFail (inTable (rowOf role code)) (lengthRight (lengthOf (rowOf role code)) data′) (fieldsRight (rowOf role code) data′)
 
--- reading, behind 2, 1, 4, 5; nothing comes after
+-- reading: 2, 1, 4, 5 come before, nothing comes after
 pub record ReadByTheTable (role : Role) (body : List ℕ) : Type 0 where
   pub ahead : (why : Refusal) → judgedLent body ≡ Refused why → readMessage role body ≡ received-as.Refused why
   pub then : judgedLent body ≡ Good → AsTheTableSays role (codeIn body) (dataIn body) Good (verdictOf (readMessage role body))
@@ -83,7 +83,7 @@ pub record ReadByTheTable (role : Role) (body : List ℕ) : Type 0 where
 abbrev pub ReadingRefuses : Type 0
 ReadingRefuses = (role : Role) (body : List ℕ) → ReadByTheTable role body
 
--- writing, behind 5; 2 and 9 come after
+-- writing: 5 comes before, 2 and 9 come after
 pub record WrittenByTheTable (role : Role) (address : Address) (code : ℕ) (data′ room : List ℕ) : Type 0 where
   pub ahead : legal address ≡ false → writtenMessage role address code data′ room .answer .verdict ≡ Refused AddressIllegal
   pub then : legal address ≡ true

@@ -1,5 +1,5 @@
 -- "A weight that wasn't heard must never look like a weight of nothing." 01, "Log records": "Kind 3 is a refusal met on the line: status 1 to
--- 8". So whatever a line refuses, and whatever a body's message is refused for, has its record, with its number and no weight: none is lost.
+-- 8". So each refusal of a line, and each refusal of a body's message, has its record, with its number and no weight. None is lost.
 use Prim.Native.Nat.{ℕ}
 use mathlib.Core.Path.{_≡_}
 use mathlib.Core.List.{List}

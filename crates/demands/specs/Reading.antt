@@ -17,8 +17,8 @@ use Rattle.demands.specs.Wire.{Sent, AllShared, wireOf, heardOf, overBlo
 
 -- ---- one byte
 
--- for every state and every byte, a state with over 255 kept included: the state handed back stands for the listener's next one, and what
--- it tells is what the listener hears
+-- for every state, also one with over 255 kept, and every byte: the state handed back stands for the listener's next state, and it tells what
+-- the listener hears
 pub record Joins (reader : Reader) (byte : ℕ) : Type 0 where
   pub next : view (taken reader byte .reader) ≡ hear (view reader) byte .next
   pub event : heardAs (taken reader byte .event) (taken reader byte .reader .body) ≡ hear (view reader) byte .event
@@ -42,8 +42,8 @@ HearsAsListener = (reader : Reader) (bytes : List ℕ) → heardBy reader bytes 
 
 -- ---- a block
 
--- fed as a block, the reader goes up to and with the first event or to the block's end: it is then where byte by byte would have brought it,
--- and has told the first thing that byte by byte would have told
+-- a reader that is fed a block takes it up to and including the first event, or to the block's end. It is then where feeding byte by byte
+-- would have brought it, and it has told the first thing that feeding byte by byte would have told.
 pub record AsBytes (reader : Reader) (block : List ℕ) : Type 0 where
   pub inside : fed reader block .used ≤ length block
   pub to-the-end : fed reader block .event ≡ Nothing → fed reader block .used ≡ length block

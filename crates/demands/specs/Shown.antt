@@ -1,4 +1,4 @@
--- The words of demand 3, at work on one small wire: a definition that only statements use says what it is meant to say.
+-- The words of demand 3, at work on one small wire. This shows that definitions which only statements use say what they are meant to say.
 use Prim.Native.Nat.{ℕ}
 use mathlib.Core.Path.{_≡_}
 use mathlib.Core.Bool.{true, false}
@@ -31,7 +31,7 @@ secondBytes = 0xFF ∷ 0xFF ∷ 0x01 ∷ 0xA1 ∷ 0xFF ∷ 0xFE ∷ 0x00 ∷ 0x0
 abbrev pub bytes : List ℕ
 bytes = firstBytes ++ secondBytes
 
--- the user's frames: one FF ahead is enough, and none is not; of a wire's first frame too, if it has one
+-- the user's frames: one FF ahead is enough, none is not enough; so too for a wire's first frame, if it has one
 pub record Frames : Type 0 where
   pub enough : AllProper pair
   pub first : FirstAhead pair
@@ -40,7 +40,7 @@ pub record Frames : Type 0 where
   pub laid : wireOf pair ≡ bytes
   pub cut-off : unended 2 withFF ≡ 0xFF ∷ 0xFF ∷ 0x01 ∷ 0xA1 ∷ 0xFF ∷ 0xFE ∷ 0x00 ∷ 0x00 ∷ 0x39 ∷ 0xFF ∷ []
 
--- who joins at the start hears both frames, from the first address byte on only the second, and from that one's on none
+-- a listener who joins at the start hears both frames; from the first frame's address byte on he hears only the second, from the second's on none
 pub record HeardFrom : Type 0 where
   pub start : heardOf bytes 0 0 pair ≡ frame 6 3 plain ∷ frame 17 6 withFF ∷ []
   pub first-byte : heardOf bytes 1 0 pair ≡ frame 16 6 withFF ∷ []

@@ -16,17 +16,17 @@ AtRest delimited = Unit {0}
 AtRest (inside kept) = ⊥
 AtRest (held kept) = ⊥
 
--- some FFs, a body, and the first FF behind it: whatever is cut off of this, the capture stopped ahead of the second FF
+-- some FFs, a body, and the first FF behind it: wherever this is cut off, the capture stopped ahead of the second FF
 abbrev pub unended : ℕ → List ℕ → List ℕ
 unended ahead body = replicate ahead 0xFF ++ (stuffed body ++ (0xFF ∷ []))
 
--- "A capture that stops inside a body gives no event for it": good or bad, in at most 255 bytes, joined and cut off anywhere
+-- "A capture that stops inside a body gives no event for it": for any body of at most 255 bytes, good or bad, joined and cut off anywhere
 abbrev pub SilentInside : Type 0
 SilentInside =
     (listener : Listener) → AtRest (listener .state) → (ahead : ℕ) (body : List ℕ) → length body ≤ longest → (joined stop : ℕ)
     → events listener (slice joined stop (unended ahead body)) ≡ []
 
--- and the frames ahead of that body are heard as ever
+-- the frames ahead of that body are heard as always
 abbrev pub StopsInside : Type 0
 StopsInside =
     (list : List Sent) → AllShared list → (ahead : ℕ) (body : List ℕ) → length body ≤ longest → (joined stop : ℕ)

@@ -1,5 +1,5 @@
 -- "A weight that wasn't heard must never look like a weight of nothing." A record of kind 3 has zeros where a weighing has its digits (01, "Log
--- records"). So: no function of the library gives a reading, a value or kilograms for it, in Rattle or across to another language.
+-- records"). So no function of the library gives a reading, a value or kilograms for it, in Rattle or to another language.
 use Prim.Native.Nat.{ℕ, _<_}
 use mathlib.Core.Path.{_≡_}
 use mathlib.Core.Bool.{true}
@@ -30,12 +30,12 @@ use Rattle.quay_log.specs.Records.{readOut, steppedOut, recordHeard}
 
 -- ---- in Rattle: the weight that a record notes
 
--- of kind 3 it is the refusal that the record notes, and never a reading, also where the record breaks a rule
+-- for kind 3 it is the refusal that the record notes and never a reading, also if the record breaks a rule
 pub record NotesNoWeight (item : Record) : Type 0 where
   pub no-reading : (reading : Reading) → weightNoted item ≡ read-as.Good reading → ⊥
   pub its-refusal : good item ≡ true → (why : Refusal) → item .status ≡ numberOf why → weightNoted item ≡ read-as.Refused why
 
--- of a weighing it is a reading, and the reading of the record's own four bytes
+-- for a weighing it is the reading of the record's own four bytes
 pub record NotesItsWeight (item : Record) : Type 0 where
   pub reading : Reading
   pub noted : weightNoted item ≡ read-as.Good reading
@@ -59,7 +59,7 @@ handedOn item = record { w0 = item .w0; w1 = item .w1; w2 = item .w2; con = item
 abbrev pub HandsOnNoWeight : QuayRecord → Type 0
 HandsOnNoWeight item = (item .kind ≡ kindOf Gross → ⊥) → (item .kind ≡ kindOf Net → ⊥) → NoWeight (handedOn item)
 
--- what a message says is a weight by 4
+-- 4 says that a message says a weight
 abbrev pub saysWeight : ℕ
 saysWeight = 4
 

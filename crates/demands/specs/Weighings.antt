@@ -1,6 +1,6 @@
--- "A weight that wasn't heard must never look like a weight of nothing." No weighing stands in the log, and no weight in the listing, unless a
--- reply C2 or C3 with exactly its four bytes was heard, from its address. (That what was refused stands as refused: Noted.) From every state
--- handed in; what its array holds and what is taken are bytes.
+-- "A weight that wasn't heard must never look like a weight of nothing." A weighing stands in the log, and a weight in the listing, only if a
+-- reply C2 or C3 with exactly its four bytes was heard from its address. (Noted says that what was refused stands as refused.) This holds from
+-- every state handed in. The array and the wire hold bytes.
 use Prim.Native.Nat.{ℕ, _+_}
 use mathlib.Core.Path.{_≡_}
 use mathlib.Core.List.{List, [], _∷_, map, List·Memᴰ}
@@ -47,7 +47,7 @@ pub record WeighingHeard (role : Role) (item : Record) (heard : Heard) : Type 0 
   pub as-reply : role ≡ Reply
   pub reply : ReplyHeard heard load (addressOf item) (item .w0 ∷ item .w1 ∷ item .w2 ∷ item .status ∷ [])
 
--- each event: whatever record it makes that is not a refusal's
+-- each event: any record that it makes and that is no refusal's
 abbrev pub NotedAsHeard : Type 0
 NotedAsHeard =
     (reader : Reader) → T (areBytes (reader .body)) → (byte time : ℕ) (role : Role) (item : Record)
@@ -60,7 +60,7 @@ noteThen noted-as.Nothing later = later
 noteThen (noted-as.Record item) later = item ∷ later
 noteThen (noted-as.Refused why) later = later
 
--- the records that a line's events make, in order; the caller gives the time of each event, by its number from 1
+-- the records that a line's events make, in order; the caller gives a time for the number of each event, from 1
 unfoldable pub recordsFrom : (ℕ → ℕ) → Role → ℕ → List Heard → List Record
 recordsFrom time role number [] = []
 recordsFrom time role number (heard ∷ later) = noteThen (notedHeard (time number) role heard) (recordsFrom time role (number + 1) later)
@@ -92,7 +92,7 @@ ListedAsHeard =
     (reader : Reader) → T (areBytes (reader .body)) → (byte : ℕ) (load : Load) (address : Address) (reading : Reading)
     → entryHeard (hear (view reader) byte .event) ≡ Weight load address reading → ListedHeard load address reading (hear (view reader) byte .event)
 
--- the whole listing of what a line hears: the entries that it has lines of
+-- the whole listing of what a line hears: the entries that have a line in it
 abbrev pub ListingAsHeard : Type 0
 ListingAsHeard =
     (reader : Reader) → T (areBytes (reader .body)) → (bytes : List ℕ) → T (areBytes bytes) → (load : Load) (address : Address) (reading : Reading)

@@ -25,8 +25,8 @@ pub record Sent : Type 0 where
   pub body : List ℕ
   pub behind : ℕ
 
--- "legal addresses, right check bytes and bodies .. in at most 255 bytes, each written with .. two or more [FFs] behind". Those behind one
--- frame may be all there is ahead of the next: the two share their delimiter. Nothing is asked of a body's numbers: bytes are among them.
+-- "legal addresses, right check bytes and bodies .. in at most 255 bytes, each written with .. two or more [FFs] behind". The FFs behind one
+-- frame may be the only ones ahead of the next: the two share their delimiter. A body's numbers need not be bytes.
 pub record Shared (sent : Sent) : Type 0 where
   pub good : judged (sent .body) ≡ Good
   pub most : length (sent .body) ≤ longest
@@ -62,7 +62,7 @@ anyFF [] = false
 anyFF (byte ∷ bytes) = eqb byte 0xFF || anyFF bytes
 
 -- of the frames from place `at` of some bytes on: those before whose first address byte a listener who joined at `joined` heard an FF.
--- A frame's wire count runs from the place of joining up to and with the second FF behind its body.
+-- A frame's wire count runs from the place of joining up to and including the second FF behind its body.
 unfoldable pub heardOf : List ℕ → ℕ → ℕ → List Sent → List Heard
 heardOf bytes joined at [] = []
 heardOf bytes joined at (sent ∷ list) =
@@ -73,12 +73,12 @@ heardOf bytes joined at (sent ∷ list) =
 
 -- ---- demand 3
 
--- Demand 3: joined anywhere, exactly those frames are heard, whole and in order, with both counts, and no refusal
+-- Demand 3: a listener who joins anywhere hears exactly those frames, whole and in order, with both counts, and no refusal
 abbrev pub Demand3 : Type 0
 Demand3 = (list : List Sent) → AllProper list → (joined : ℕ) → events fresh (drop joined (wireOf list)) ≡ heardOf (wireOf list) joined 0 list
 
--- the same of a wire with shared delimiters: between two frames stand two or more FFs, behind the one and ahead of the other. Where none
--- stands ahead of the first, nobody heard an FF before it.
+-- the same for a wire with shared delimiters: two or more FFs stand between two frames, behind the one and ahead of the other. If no FF
+-- stands ahead of the first frame, nobody heard an FF before it.
 abbrev pub SharedDemand3 : Type 0
 SharedDemand3 = (list : List Sent) → AllShared list → (joined : ℕ) → events fresh (drop joined (wireOf list)) ≡ heardOf (wireOf list) joined 0 list
 
@@ -90,7 +90,7 @@ pub record RunsToCheck (body : List ℕ) : Type 0 where
   pub is-legal : legal address ≡ true
   pub runs : body ≡ bodyOf address code data′
 
--- each such body is judged good, and a body of bytes that is judged good is one: so the demands ask no more of a frame than the user does
+-- each such body is judged good, and a body of bytes that is judged good is such a body. So the demands ask no more of a frame than the user does
 pub record GoodExactly (body : List ℕ) : Type 0 where
   pub each : RunsToCheck body → judged body ≡ Good
   pub no-other : T (areBytes body) → judged body ≡ Good → RunsToCheck body
@@ -108,7 +108,7 @@ anyRefused (refused why wire kept ∷ heard) = true
 abbrev pub NoRefusal : Type 0
 NoRefusal = (list : List Sent) → AllShared list → (joined : ℕ) → anyRefused (events fresh (drop joined (wireOf list))) ≡ false
 
--- all frames of a list, as heard by who has taken `taken` bytes where their wire begins
+-- all frames of a list, as heard by a listener who has taken `taken` bytes when their wire begins
 unfoldable pub framesOf : ℕ → List Sent → List Heard
 framesOf taken [] = []
 framesOf taken (sent ∷ list) =
@@ -124,14 +124,14 @@ FirstAhead (sent ∷ list) = 1 ≤ sent .ahead
 abbrev pub FromStart : Type 0
 FromStart = (list : List Sent) → AllShared list → FirstAhead list → events fresh (wireOf list) ≡ framesOf 0 list
 
--- "So two different lists never make the same wire." (A list of frames is one of bodies: an FF between two of them is behind one or ahead
--- of the other, and nobody can tell.)
+-- "So two different lists never make the same wire." (A list of frames means a list of bodies here. An FF between two frames is behind one
+-- or ahead of the other, and nobody can tell which.)
 abbrev pub OneList : Type 0
 OneList =
     (list other : List Sent) → AllShared list → AllShared other → wireOf list ≡ wireOf other
     → map (λ (sent : Sent). sent .body) list ≡ map (λ (sent : Sent). sent .body) other
 
--- demand 2's frame is one with one FF ahead and two behind
+-- demand 2's frame has one FF ahead and two behind
 abbrev pub OfFrameRule : Type 0
 OfFrameRule = (body : List ℕ) → framed body ≡ onWire (record { ahead = 1; body = body; behind = 2 })
 
@@ -141,7 +141,7 @@ ReadsBack = (body : List ℕ) → judgedLent body ≡ Good → events fresh (fra
 
 -- ---- cuts
 
--- the bytes cut in two anywhere: the second part is heard from where the first left the listener, and leaves it as the whole does
+-- the bytes may be cut in two anywhere: the second part is heard from where the first left the listener, and leaves it as the whole does
 pub record CutInTwo (listener : Listener) (first second : List ℕ) : Type 0 where
   pub heard : events listener (first ++ second) ≡ events listener first ++ events (after listener first) second
   pub left : after listener (first ++ second) ≡ after (after listener first) second
@@ -149,11 +149,11 @@ pub record CutInTwo (listener : Listener) (first second : List ℕ) : Type 0 whe
 abbrev pub AnyCut : Type 0
 AnyCut = (listener : Listener) (first second : List ℕ) → CutInTwo listener first second
 
--- what is told over blocks that are heard one after the other, each from where the block before it left the hearer
+-- what is told over blocks that are heard one after the other; each starts where the block before it left the listener
 unfoldable pub overBlocks : {S : Type 0} → (S → List ℕ → List Heard) → (S → List ℕ → S) → S → List (List ℕ) → List Heard
 overBlocks told left state [] = []
 overBlocks told left state (block ∷ blocks) = told state block ++ overBlocks told left (left state block) blocks
 
--- cutting the bytes into blocks anywhere changes nothing
+-- the bytes may be cut into blocks anywhere, and nothing changes
 abbrev pub AnyBlocks : Type 0
 AnyBlocks = (listener : Listener) (blocks : List (List ℕ)) → overBlocks events after listener blocks ≡ events listener (flatten blocks)

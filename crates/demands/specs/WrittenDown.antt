@@ -1,6 +1,6 @@
--- What a line gives can always be written down, in the log and in the listing: no weight that was heard is lost behind a refusal of the writer.
+-- What a line gives can always be written down, in the log and in the listing. No weight that was heard is lost because a writer refuses it.
 -- "A reading handed in with a number above 999,999 or a point above 7 is refusal 8 wherever it is used"; "Writing a record judges 11, then 9."
--- From the line neither 8 nor 11 comes: for each event that a byte gives, in whatever state.
+-- What comes from the line is refused neither by 8 nor by 11. This holds for each event that a byte gives, in any state.
 use Prim.Native.Nat.{ℕ, _≤_}
 use mathlib.Core.Path.{_≡_}
 use mathlib.Core.Bool.{true}
@@ -34,12 +34,12 @@ Sound (Refused why) = lineStatus (numberOf why) ≡ true
 
 pub record CanBeWritten (heard : Heard) : Type 0 where
   pub sound : Sound (entryHeard heard)
-  -- its line, wherever the room is long enough for it
+  -- its line, if the room is long enough for it
   pub line : (number : ℕ) (room : List ℕ) → length (lineOf number (entryHeard heard)) ≤ length room
       → writtenLine number (entryHeard heard) room ≡ wrote Good (lineOf number (entryHeard heard)) room
   -- noting it is never refused
   pub noted : (time : ℕ) (role : Role) (why : Refusal) → notedHeard time role heard ≡ noted-as.Refused why → ⊥
-  -- its record, wherever the room has 20 bytes
+  -- its record, if the room has 20 bytes
   pub item : (time : ℕ) (role : Role) (item : Record) (room : List ℕ) → notedHeard time role heard ≡ noted-as.Record item → recordBytes ≤ length room
       → writtenRecord item room ≡ wrote Good (bytesOfRecord item) room
 

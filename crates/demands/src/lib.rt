@@ -1,1 +1,1 @@
-// The demands, as statements over the layers above and their proofs: specs/ states them, proofs/ gives a term of each. There is no code here.
+// The demands, as statements over the crates above. specs/ states them, and proofs/ gives a proof of each. There is no code here.

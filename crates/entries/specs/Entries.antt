@@ -15,7 +15,7 @@ use Rattle.message.specs.Reading.{readIf, readMessage}
 use Rattle.entries.specs.declared.entries.Entry.{Entry}
 use Rattle.entries.specs.declared.entries.Entry.the-variants.{Nothing, Weight, Message, Refused}
 
--- a message: a weight as one, every other with its address and code
+-- a message: a weight lists as a weight, every other message with its address and code
 abbrev pub messageEntry : Address → ℕ → What → Entry
 messageEntry address code (says.Weight load reading) = Weight load address reading
 messageEntry address code says.Nothing = Message address code
@@ -44,12 +44,12 @@ entryBy reads (refused why wire kept) = Refused why
 unfoldable pub entryHeard : Heard → Entry
 entryHeard = entryBy (readMessage Reply)
 
--- the same, given whether its check is right: a line hands out a body only where it is, so of what it hands out the two are one (law `handed-out`)
+-- the same; an argument says whether the check is right. A line hands out a body only if it is, so for such a body the two are one (`handed-out`)
 unfoldable pub entryIf : Bool → Heard → Entry
 entryIf right = entryBy (readIf right Reply)
 
--- what may be listed, and is 8 otherwise: "A reading handed in with a number above 999,999 or a point above 7 is refusal 8 wherever it is
--- used", and "refusals 1 to 8 all as the third line": no other is heard on a line
+-- what may be listed; anything else is 8: "A reading handed in with a number above 999,999 or a point above 7 is refusal 8 wherever it is
+-- used", and "refusals 1 to 8 all as the third line", since no other is heard on a line
 abbrev pub sound : Entry → Bool
 sound Nothing = true
 sound (Weight load address reading) = inRange reading

@@ -1,4 +1,4 @@
-// What an event lists as: a weight, another message, or a refusal. A caller counts by it, and looks at no text.
+// What an event lists as: a weight, another message, or a refusal. A caller counts by this and does not look at the text.
 use body::Address;
 use codes::Load;
 use codes::Role;
@@ -46,9 +46,9 @@ pub fn entry_of(received: Received) -> Entry
     }
 }
 
-// An event as it is to be listed, given whether the check of its body is right: a line hands out no other body, so that a listing
-// need not make it again. The body of a frame stands at the front of `body`, as the reader leaves it, and is read as a reply; of any other
-// event `body` is not looked at.
+// An event as it is to be listed. An argument tells whether the check of its body is right. A line hands out no body with a wrong check, so
+// a listing need not test it again. The body of a frame stands at the front of `body`, as the reader leaves it, and is read as a reply. For any
+// other event `body` is not looked at.
 pub fn heard_without_check(right: bool, event: Event, body: &[u8]) -> Entry
     ensures { λ r. ⌜ r ≡ entryIf right (heardAs event (now (body .entry))) ⌝ }
 {
@@ -63,7 +63,7 @@ pub fn heard_without_check(right: bool, event: Event, body: &[u8]) -> Entry
     }
 }
 
-// An event as it is to be listed, its body judged again, check and all.
+// An event as it is to be listed. Its body is judged again, check and all.
 pub fn heard(event: Event, body: &[u8]) -> Entry
     ensures { λ r. ⌜ r ≡ entryHeard (heardAs event (now (body .entry))) ⌝ }
 {

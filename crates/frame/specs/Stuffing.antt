@@ -28,7 +28,7 @@ countFF (byte ∷ body) = cond (eqb byte 0xFF) 1 0 + countFF body
 unfoldable pub needed : List ℕ → ℕ
 needed body = length body + 3 + countFF body
 
--- the way back: the byte after each FF goes
+-- the way back: the byte after each FF is dropped
 unfoldable pub unstuffed : List ℕ → List ℕ
 unstuffed [] = []
 unstuffed (byte ∷ []) = byte ∷ []

@@ -28,7 +28,7 @@ judgedLength body after = refuseIf (ltb longest (length body)) BodyLong after
 unfoldable pub judgedFields : Address → ℕ → List ℕ → Verdict → Verdict
 judgedFields address code data′ after = judgedAddress address (judgedLength (bodyOf address code data′) after)
 
--- the room rule's number, without writing
+-- the number of the room rule; nothing is written
 abbrev pub needing : Verdict → ℕ → Needed
 needing Good bytes = needed-as.Bytes bytes
 needing (Refused why) bytes = needed-as.Refused why
@@ -40,6 +40,6 @@ neededFor address code data′ = needing (judgedFields address code data′ Good
 unfoldable pub judgedWrite : Address → ℕ → List ℕ → List ℕ → Verdict
 judgedWrite address code data′ room = judgedFields address code data′ (judgedRoom (needed (bodyOf address code data′)) room)
 
--- the frame in the first bytes of the room, every other byte as it stood; refused, every byte as it stood
+-- the frame stands in the first bytes of the room, and every other byte is as it stood; if refused, every byte is as it stood
 unfoldable pub writtenFrame : Address → ℕ → List ℕ → List ℕ → Left
 writtenFrame address code data′ room = wrote (judgedWrite address code data′ room) (framed (bodyOf address code data′)) room

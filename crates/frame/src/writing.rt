@@ -123,7 +123,7 @@ fn body_length(address: Address, data: &[u8]) -> usize
     address_length(address) + data.len() + 2
 }
 
-// 5, then 2; then the body is made ready at the front of `body`, and the room that its frame needs is told.
+// Judged 5, then 2. Then the body is made ready at the front of `body`, and the answer is the room that its frame needs.
 fn prepare(address: Address, code: u8, data: &[u8], body: &mut [u8]) -> Needed
     requires { ⌜ 255 ≤ length (now body) ⌝ }
     ensures { λ r. ⌜ Prepared address code (now («data» .entry)) (now (body .entry)) r (now (body .exit)) ⌝ }

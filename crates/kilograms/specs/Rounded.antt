@@ -10,7 +10,7 @@ use Rattle.weight.specs.Tenths.{valueOf}
 use Rattle.kilograms.specs.declared.Kilograms.{Kilograms}
 use Rattle.kilograms.specs.declared.Kilograms.the-variants.{Number, Refused}
 
--- a value below 0; a value of 0 is not, whatever the reading's sign bit
+-- whether a value is below 0; a value of 0 is not, whatever the reading's sign bit
 abbrev pub negative : ℤ → Bool
 negative (pos size) = false
 negative (negsuc size) = true

@@ -11,8 +11,8 @@ use Rattle.kilograms.specs.Rounded.{negative, perKilogram}
 abbrev pub apart : ℕ → ℕ → ℕ
 apart a b = (a - b) + (b - a)
 
--- A float m · 2^e is the fraction m · up e / down e. It has the sign, and lies within one part in so many of size / scale: both
--- fractions are brought over the denominator scale · down e.
+-- A float m · 2^e is the fraction m · up e / down e. It has the sign, and it lies within one part in so many of size / scale. For this
+-- both fractions are brought over the denominator scale · down e.
 abbrev pub Within : ℕ → Float → Bool → ℕ → ℕ → Type 0
 Within parts nan sign size scale = ⊥
 Within parts (inf s) sign size scale = ⊥

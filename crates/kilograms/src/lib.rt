@@ -5,7 +5,7 @@ use refusal::Refusal;
 use weight::Reading;
 use weight::Value;
 
-// A float of kilograms, or why there is none: a refused reading never weighs nothing.
+// A float of kilograms, or why there is none. A refused reading never becomes a weight of nothing.
 pub enum Kilograms {
     Number(f64),
     Refused(Refusal),

@@ -52,7 +52,7 @@ unfoldable pub ended : Verdict → List ℕ → ℕ → Heard
 ended Good body wire = frame wire (length body) body
 ended (Refused why) body wire = refused why wire (length body)
 
--- one byte in each of the four states; `wire` counts it already
+-- one byte in each of the four states; `wire` counts this byte already
 unfoldable pub hearIn : State → ℕ → ℕ → Step
 -- "FF leads to Delimited, any other byte is dropped"
 hearIn seeking byte wire = cond (eqb byte 0xFF) (step delimited wire nothing) (step seeking wire nothing)

@@ -1,5 +1,5 @@
--- 01, "The frame": "The reader takes one byte at a time, and its state is handed in by value and handed back." What a state stands for, and
--- what it becomes: the paper's listener, with its kept bytes at the front of an array of 255.
+-- 01, "The frame": "The reader takes one byte at a time, and its state is handed in by value and handed back." A state stands for the
+-- paper's listener and becomes the listener's next state. The kept bytes stand at the front of an array of 255.
 use Prim.Native.Nat.{ℕ, _+_, _≤_, _<_}
 use mathlib.Core.Path.{_≡_}
 use mathlib.Core.Bool.{cond}
@@ -58,13 +58,13 @@ placeOf listener = record {
   kept = record { 0 = length (keptOf (listener .state)) };
 }
 
--- an event, without its body: that stands in the state handed back
+-- an event without its body; the body stands in the state handed back
 abbrev pub eventOf : Heard → Event
 eventOf nothing = Nothing
 eventOf (frame wire kept body) = Frame (record { 0 = wire }) (record { 0 = kept })
 eventOf (refused why wire kept) = Refused why (record { 0 = wire }) (record { 0 = kept })
 
--- one byte: the listener's step, its kept bytes at the front of the array, every other byte of it as it stood
+-- one byte: the listener's step. Its kept bytes stand at the front of the array, and every other byte of the array is as it stood
 unfoldable pub taken : Reader → ℕ → Taken
 taken reader byte =
     let step = hear (view reader) byte in
@@ -117,7 +117,7 @@ unfoldable pub firstHeard : Listener → List ℕ → Heard
 firstHeard listener [] = nothing
 firstHeard listener (byte ∷ bytes) = orElse (hear listener byte .event) (firstHeard (hear listener byte .next) bytes)
 
--- a promise: the whole answer of a block, that the body of a frame just heard can be read from it, and that it came on, inside the block
+-- a promise: the whole answer of a block; the body of a frame just heard can be read from it; it used a byte, if there is one, and none past the end
 pub record Feeds (reader : Reader) (block : List ℕ) (answered : Fed) : Type 0 where
   pub answer : answered ≡ fed reader block
   pub told : heardAs (answered .event) (answered .reader .body) ≡ firstHeard (view reader) block
@@ -126,7 +126,7 @@ pub record Feeds (reader : Reader) (block : List ℕ) (answered : Fed) : Type 0 
 
 -- ---- the same, with the array lent beside the place
 
--- an array of 255 bytes has 255: where a list had not, nothing would be taken
+-- an array of 255 bytes always has 255; a list of another length would take nothing
 unfoldable pub fedLent : Place → List ℕ → List ℕ → Fed
 fedLent place block before =
     cond (eqb (length before) longest) (fed (record { place = place; body = before }) block)

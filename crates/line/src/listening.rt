@@ -1,4 +1,4 @@
-// Listening without a copy: the place goes by value, and the 255 bytes beside it are lent. This is what a poller and the listing loop over.
+// Listening without a copy. The place goes by value, and the 255 bytes beside it are lent. A poller and the listing loop over this.
 use crate::places::Event;
 use crate::places::Place;
 ghost use mathlib.Core.Path.{_≡_};
@@ -20,7 +20,7 @@ fn size_of(body: &[u8; 255]) -> usize
 }
 
 impl Place {
-    // A block in: up to and with the first event, or to the block's end. The body of a frame just heard stands at the front of `body`.
+    // Takes a block up to and including the first event, or to the block's end. The body of a frame just heard stands at the front of `body`.
     pub fn listen(self, block: &[u8], body: &mut [u8; 255]) -> Went
         ensures { λ r. ⌜ Listens self (now (block .entry)) (now (body .entry)) r (now (body .exit)) ⌝ }
     {

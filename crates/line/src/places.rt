@@ -1,4 +1,4 @@
-// The two counts that every event carries, and the small part of a reader's state: one byte moves it on.
+// The two counts that every event carries, and the small part of a reader's state, which one byte moves on.
 use body::LONGEST_BODY;
 use body::judge;
 use refusal::Refusal;
@@ -26,7 +26,7 @@ pub enum Phase {
     Held,
 }
 
-// What a byte gives: mostly nothing; a frame, or a refusal, each with its two places.
+// What a byte gives: mostly nothing. Otherwise a frame or a refusal, each with its two places.
 pub enum Event {
     Nothing,
     Frame(WirePlace, BodyPlace),
@@ -64,7 +64,7 @@ fn quiet(phase: Phase, wire: u64, kept: usize) -> Moved
     }
 }
 
-// A refusal on the way: back to Seeking.
+// A refusal inside a body. It leads back to Seeking.
 fn refuse(why: Refusal, wire: u64, kept: usize) -> Moved
     ensures { λ r. ⌜ r ≡ record { place = record { phase = Phase.Seeking; wire = record { 0 = wire }; kept = record { 0 = 0 } }; event = Event.Refused why (record { 0 = wire }) (record { 0 = kept }) } ⌝ }
 {
@@ -78,7 +78,7 @@ fn refuse(why: Refusal, wire: u64, kept: usize) -> Moved
     }
 }
 
-// A byte to keep; the 256th is refusal 2.
+// A byte to keep. The 256th is refusal 2.
 fn keep_byte(byte: u8, wire: u64, kept: usize, body: &mut [u8; 255]) -> Moved
     requires { ⌜ (kept ≤ 255) × (length (now body) ≡ 255) ⌝ }
     ensures { λ r. ⌜ Keeps (keep (take kept (now (body .entry))) byte wire) (now (body .entry)) r (now (body .exit)) ⌝ }
@@ -104,7 +104,7 @@ fn end_body(wire: u64, kept: usize, body: &[u8; 255]) -> Event
 }
 
 impl Place {
-    // One byte: the place moves on, and the kept bytes beside it.
+    // Takes one byte. The place moves on, and so do the kept bytes beside it.
     pub(crate) fn step(self, byte: u8, body: &mut [u8; 255]) -> Moved
         requires { ⌜ (self .kept .0 ≤ 255) × (length (now body) ≡ 255) ⌝ }
         ensures { λ r. ⌜ Keeps (hear (listening self (now (body .entry))) byte) (now (body .entry)) r (now (body .exit)) ⌝ }

@@ -4,7 +4,7 @@ use crate::places::Place;
 ghost use mathlib.Core.Path.{_≡_};
 ghost use Rattle.line.specs.Readers.{Takes, Feeds, freshReader};
 
-// The state of a reader. The kept bytes stand at the front of `body`; what lies behind them is of older bodies.
+// The state of a reader. The kept bytes stand at the front of `body`. The bytes behind them are of older bodies.
 pub struct Reader {
     pub place: Place,
     pub body: [u8; 255],
@@ -49,7 +49,7 @@ impl Reader {
         }
     }
 
-    // A block in: up to and with the first event, or to the block's end. The 255 bytes are copied once for a block.
+    // Takes a block up to and including the first event, or to the block's end. The 255 bytes are copied once for a block.
     pub fn feed(mut self, block: &[u8]) -> Fed
         ensures { λ r. ⌜ Feeds self (now (block .entry)) r ⌝ }
     {

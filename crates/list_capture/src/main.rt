@@ -1,7 +1,7 @@
-// The listing of a capture: the file that its argument names, or standard input without one, read to its end in blocks.
+// The listing of a capture: the file that the argument names, or standard input without an argument. It is read to its end in blocks.
 //
-// It streams: one block, one page of lines on their way out, and the reader are all it holds. What cannot be read or written is said
-// on standard error, and then there is no total line: a cut listing never looks whole.
+// The program streams. It holds only one block, one page of lines on their way out, and the reader. If something cannot be read or written,
+// standard error says so, and there is no total line. So a cut listing never looks whole.
 mod page;
 mod telling;
 
@@ -43,7 +43,7 @@ fn shown(tally: Tally, page: &mut [u8]) -> Tally {
     next
 }
 
-// What a read brought, listed to its end. A read that came back short shows all there is: the line may be silent for long.
+// Lists what a read brought, to its end. A read that came back short shows all there is, since the line may be silent for long.
 fn list_read(tally: Tally, heard: &[u8], is_short: bool, page: &mut [u8]) -> Run {
     let listed = list_block(tally, heard, page);
     if is_short {
@@ -52,7 +52,7 @@ fn list_read(tally: Tally, heard: &[u8], is_short: bool, page: &mut [u8]) -> Run
     went_on(listed)
 }
 
-// One read of the capture. No more follows where it ended or could not be read.
+// One read of the capture. No more reads follow if the capture ended or could not be read.
 fn list_some(capture: i32, name: &[u8], tally: Tally, block: &mut [u8], page: &mut [u8]) -> Run {
     let got = libc::read(capture, block);
     if got < 0 {
@@ -67,7 +67,7 @@ fn list_some(capture: i32, name: &[u8], tally: Tally, block: &mut [u8], page: &m
     list_read(tally, &block[..count], is_short, page)
 }
 
-// A proved loop has to end, and nothing says that a capture does: its turns are counted down from a number that no run uses up.
+// A proved loop has to end, but nothing says that a capture ends. So the turns are counted down from a number that no run uses up.
 fn list_all(capture: i32, name: &[u8], block: &mut [u8], page: &mut [u8]) -> Run {
     let mut run = Run {
         tally: telling::fresh(),

@@ -3,7 +3,7 @@ use libc::STDERR_FILENO;
 use libc::STDOUT_FILENO;
 use room::lay;
 
-// How much of the page is written on, and whether every line so far came onto a page and every page went out.
+// How much of the page is filled, and whether every line so far came onto a page and every page went out.
 pub(crate) struct Page {
     pub(crate) used: usize,
     pub(crate) whole: bool,
@@ -17,7 +17,7 @@ pub(crate) fn front(bytes: &[u8], length: usize) -> &[u8] {
     &bytes[0..length]
 }
 
-// After a write that failed nothing more goes out: what came later would look as if it stood next to what came before.
+// After a write that failed nothing more goes out. Otherwise later lines would look as if they stood right behind the earlier ones.
 pub(crate) fn flush(page: Page, room: &mut [u8]) -> Page {
     let used = page.used;
     if !page.whole {
@@ -30,7 +30,7 @@ pub(crate) fn flush(page: Page, room: &mut [u8]) -> Page {
     Page { used: 0, whole }
 }
 
-// For a line that could not be made or laid: those ahead of it go out, it is said, and nothing goes out behind them.
+// For a line that could not be made or laid. The lines ahead of it go out, standard error says so, and nothing goes out after that.
 pub(crate) fn cut(page: Page, room: &mut [u8]) -> Page {
     let ahead = flush(page, room);
     if ahead.whole {
@@ -42,7 +42,7 @@ pub(crate) fn cut(page: Page, room: &mut [u8]) -> Page {
     }
 }
 
-// A line behind those of the page; a page that has no room for it goes out first.
+// Lays a line behind those of the page. If the page has no room for it, the page goes out first.
 pub(crate) fn put(line: &[u8], page: Page, room: &mut [u8]) -> Page {
     let used = page.used;
     let whole = page.whole;

@@ -57,7 +57,7 @@ fn counted(counts: Counts, entry: Entry) -> Counts {
     next
 }
 
-// A line as it was written onto the page. One that was refused is not passed over: the listing ends there, without a total.
+// A line as it was written onto the page. A refused line is not passed over: the listing ends there, without a total.
 fn told(written: Written, text: &[u8], page: Page, room: &mut [u8]) -> Page {
     let verdict = written.verdict;
     match verdict {
@@ -74,7 +74,7 @@ fn tell(number: u64, entry: Entry, page: Page, room: &mut [u8]) -> Page {
     told(written, text, page, room)
 }
 
-// A block to its end, event by event, the reader taken apart once.
+// Takes a block to its end, event by event. The reader is taken apart once.
 pub(crate) fn list_block(tally: Tally, block: &[u8], room: &mut [u8]) -> Tally {
     let mut reader = tally.reader;
     let mut place = reader.place;
@@ -105,7 +105,7 @@ pub(crate) fn list_block(tally: Tally, block: &[u8], room: &mut [u8]) -> Tally {
     }
 }
 
-// Whether bytes came and nothing was heard in them: no frame, and not one that was refused.
+// Whether bytes came and nothing was heard in them: no frame and no refusal.
 fn is_unheard(tally: Tally) -> bool {
     let reader = tally.reader;
     let place = reader.place;
@@ -113,8 +113,8 @@ fn is_unheard(tally: Tally) -> bool {
     tally.lines == 0 && wire.0 != 0
 }
 
-// The last line, and all that is still on the page. Bytes without a frame are no failure, but they may be no capture: it is noted,
-// in words that `bin/quay` knows.
+// Writes the last line, and all that is still on the page. Bytes without a frame are no failure, but they may be no capture. So a note says
+// it, in words that `bin/quay` knows.
 pub(crate) fn tell_total(tally: Tally, room: &mut [u8]) {
     let mut line = [0u8; LONGEST_LINE];
     let text: &mut [u8] = &mut line;

@@ -10,7 +10,7 @@ use Rattle.entries.specs.declared.entries.Entry.{Entry}
 use Rattle.entries.specs.declared.entries.Entry.the-variants.{Nothing, Weight, Message, Refused}
 use Rattle.listing.specs.Texts.{spelt, decimal, sixDigits, oneDigit, hexByte, addressText, signByte, markByte}
 
--- behind a field of a line: each further field behind one blank, and a newline behind the last
+-- the rest of a line behind a field: one blank ahead of each further field, and a newline behind the last
 abbrev pub rest : List (List ℕ) → List ℕ
 rest [] = spelt "\n"
 rest (field ∷ more) = spelt " " ++ (field ++ rest more)
@@ -29,7 +29,7 @@ markFields reading = oneDigit (reading .point) ∷ (markByte (reading .settled) 
 abbrev pub readingFields : Reading → List (List ℕ)
 readingFields reading = (signByte (reading .minus) ∷ []) ∷ sixDigits (reading .number) ∷ markFields reading
 
--- the line of an entry; where nothing was heard there is none
+-- the line of an entry; if nothing was heard, there is no line
 abbrev pub lineOf : ℕ → Entry → List ℕ
 lineOf number Nothing = []
 lineOf number (Weight load address reading) = line (decimal number) (spelt "weight" ∷ loadText load ∷ addressText address ∷ readingFields reading)

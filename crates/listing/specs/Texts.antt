@@ -17,7 +17,7 @@ spelt (letter before rest) = code letter ∷ spelt rest
 abbrev pub digit : ℕ → ℕ
 digit value = cond (ltb value 10) (48 + value) (55 + value)
 
--- the last digits of a number in a base, as many as `width` says, the highest first
+-- the last `width` digits of a number in a base, the highest first
 abbrev pub digits : ℕ → ℕ → ℕ → List ℕ
 digits base zero number = []
 digits base (suc width) number = digits base width (number / base) ++ (digit (number % base) ∷ [])
@@ -32,7 +32,7 @@ oneDigit number = digits 10 1 number
 abbrev pub hexByte : ℕ → List ℕ
 hexByte byte = digits 16 2 byte
 
--- a number in decimal, without leading zeros: its tens, where it has any, and behind them its last digit; with at most `more` digits ahead of the last
+-- a number in decimal, without leading zeros: its tens, if it has any, and then its last digit; at most `more` digits stand ahead of the last
 unfoldable pub decimalIn : ℕ → ℕ → List ℕ
 decimalIn zero number = digit number ∷ []
 decimalIn (suc more) number = cond (ltb number 10) (digit number ∷ []) (decimalIn more (number / 10) ++ (digit (number % 10) ∷ []))

@@ -33,6 +33,6 @@ linesFrom number (entry ∷ more) = lineOf number entry ++ linesFrom (number + 1
 abbrev pub listed : List Entry → List ℕ
 listed entries = linesFrom 1 entries ++ totalOf (length entries) (count weightIn entries) (count refusedIn entries)
 
--- the listing of what was heard on a line: its events, of which none is `nothing`
+-- the listing of what was heard on a line; no event of a line is `nothing`
 unfoldable pub listing : List Heard → List ℕ
 listing heard = listed (map entryHeard heard)

@@ -1,4 +1,4 @@
--- Writing a line into lent room: 8 where an entry holds a reading out of its ranges or a refusal that no line can meet, then 9, "lent room
+-- Writing a line into lent room: 8 if an entry holds a reading out of its ranges or a refusal that no line can meet, then 9, "lent room
 -- shorter than needed".
 use Prim.Native.Nat.{ℕ, _+_}
 use mathlib.Core.Path.{_≡_}
@@ -12,7 +12,7 @@ use Rattle.entries.specs.declared.entries.Entry.{Entry}
 use Rattle.entries.specs.Entries.{sound}
 use Rattle.listing.specs.Lines.{lineOf, totalOf}
 
--- a text in the first bytes of the room, every other byte as it stood; refused, every byte as it stood
+-- the text stands in the first bytes of the room, and every other byte is as it stood; if refused, every byte is as it stood
 unfoldable pub writtenText : List ℕ → List ℕ → Left
 writtenText text room = wrote (judgedRoom (length text) room) text room
 
@@ -23,7 +23,7 @@ writtenLine number entry room = wrote (refuseIf (not (sound entry)) FieldOutside
 unfoldable pub writtenTotal : ℕ → ℕ → ℕ → List ℕ → Left
 writtenTotal total weights refused room = writtenText (totalOf total weights refused) room
 
--- a line is put together from its end: a piece put ahead of what stands from place `at` on, and the place where it begins
+-- a line is put together from its end: a piece is put ahead of what stands from place `at` on, and the answer is the place where it begins
 pub record Ahead (piece : List ℕ) (at : ℕ) (before : List ℕ) (answered : ℕ) (left : List ℕ) : Type 0 where
   pub place : answered + length piece ≡ at
   pub text : drop answered left ≡ piece ++ drop at before

@@ -1,4 +1,4 @@
-// The listing: what an event lists as, to one line of text in lent room, and the total line (01, "Judged examples").
+// The listing: the line of an entry as text in lent room, and the total line (01, "Judged examples").
 mod pieces;
 mod writing;
 

@@ -1,5 +1,5 @@
-// The pieces of a line. A line is put together from its end, so that the digits of a number come in the order in which
-// division gives them: each piece is put ahead of what stands from place `at` on, and the place where it begins is answered.
+// The pieces of a line. A line is put together from its end, since division gives the last digit of a number first. Each piece is put
+// ahead of what stands from place `at` on. The answer is the place where the piece begins.
 use body::Address;
 use codes::Load;
 use room::lay;

@@ -1,4 +1,4 @@
-// Lines into lent room: each is put together at the end of an array of our own, and then laid into the room at once.
+// Writes lines into lent room. Each line is put together at the end of an array of our own, and then laid into the room at once.
 use crate::pieces::put;
 use crate::pieces::put_address;
 use crate::pieces::put_code;
@@ -80,7 +80,7 @@ fn put_total(total: u64, weights: u64, refused: u64, text: &mut [u8]) -> usize
     put_counted(b"total ", total, text, behind_total)
 }
 
-// 8 is for a reading whose number or point is out of its range, and for a refusal that no line can meet.
+// 8 is given for a reading whose number or point is out of its range, and for a refusal that no line can meet.
 fn is_sound(entry: Entry) -> bool
     ensures { λ r. ⌜ r ≡ sound entry ⌝ }
 {
@@ -106,7 +106,7 @@ fn write_text(text: &[u8], room: &mut [u8]) -> Written
     }
 }
 
-// The line of an entry, as the event of that number, into lent room. Judged 8, 9. Where nothing was heard there is no line.
+// Writes the line of an entry, as the event of that number, into lent room. Judged 8, 9. If nothing was heard, there is no line.
 pub fn write_line(number: u64, entry: Entry, room: &mut [u8]) -> Written
     ensures { λ r. ⌜ Leaves (writtenLine number entry (now (room .entry))) r (now (room .exit)) ⌝ }
 {
@@ -118,7 +118,7 @@ pub fn write_line(number: u64, entry: Entry, room: &mut [u8]) -> Written
     write_text(&text[place..LONGEST_LINE], room)
 }
 
-// The last line of a listing into lent room. Judged 9.
+// Writes the last line of a listing into lent room. Judged 9.
 pub fn write_total(total: u64, weights: u64, refused: u64, room: &mut [u8]) -> Written
     ensures { λ r. ⌜ Leaves (writtenTotal total weights refused (now (room .entry))) r (now (room .exit)) ⌝ }
 {

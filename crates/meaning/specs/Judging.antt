@@ -1,4 +1,4 @@
--- 01, "What the answers mean": "A message is then judged 6, 7, 8." The reader and the writer both judge so.
+-- 01, "What the answers mean": "A message is then judged 6, 7, 8." The reader and the writer both judge in this way.
 use Prim.Native.Nat.{ℕ}
 use mathlib.Core.Bool.{Bool, not}
 use mathlib.Core.List.{List}
@@ -21,7 +21,7 @@ use Rattle.meaning.specs.Meaning.{dataFrom, meaning}
 unfoldable pub judgedData : Row → List ℕ → Verdict
 judgedData row data′ = refuseIf (not (lengthRight (lengthOf row) data′)) LengthWrong (refuseIf (not (fieldsRight row data′)) FieldOutside Good)
 
--- a judge after a judge: what the first refuses stays refused
+-- one judge after another: what the first refuses stays refused
 abbrev pub judgedThen : Verdict → Verdict → Verdict
 judgedThen Good after = after
 judgedThen (Refused why) after = Refused why
@@ -43,7 +43,7 @@ telling (Refused why) what = told-as.Refused why
 unfoldable pub told : Role → Address → ℕ → List ℕ → Told
 told role address code data′ = telling (judgedMessage role code data′) (meaning (rowOf role code) (dataFrom address) data′)
 
--- its last step, where 6 and 7 are passed
+-- its last step, after 6 and 7 are passed
 abbrev pub within : Bool → What → Told
 within right what = telling (refuseIf (not right) FieldOutside Good) what
 

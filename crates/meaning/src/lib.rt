@@ -1,4 +1,4 @@
-// What code and data say by the paper's table: judged 6, 7, 8, and then as numbers, a reading, or the place of a text (01, "Messages").
+// What code and data say by the paper's table (01, "Messages"). They are judged 6, 7, 8. Then they give numbers, a reading, or a text's place.
 mod meaning;
 
 pub use meaning::Told;

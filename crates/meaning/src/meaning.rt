@@ -1,4 +1,4 @@
-// What a message says: its code and data judged 6, 7, 8, and then as numbers, a reading, or the place of a text.
+// What a message says. Its code and data are judged 6, 7, 8. Then they give numbers, a reading, or the place of a text.
 use body::Address;
 use body::address_length;
 use codes::Length;
@@ -26,7 +26,7 @@ ghost use Rattle.codes.specs.Lengths.{lengthOf, lengthRight};
 ghost use Rattle.meaning.specs.Meaning.{fourBytes};
 ghost use Rattle.meaning.specs.Judging.{within, said, told};
 
-// What a message says. A text, and the six bytes of an event, stand in the lent body from place `from` up to, not including, place `to`.
+// What a message says. A text, and the six bytes of an event, stand in the lent body from place `from` up to but not including place `to`.
 pub enum What {
     Nothing, // there are no data
     Serial(u32), // the terminal's serial number
@@ -90,7 +90,7 @@ fn judged(right: bool, what: What) -> Told
     }
 }
 
-// NUM, a count, and that many characters: data of the right length, judged 8. They begin at place `from` of a body.
+// NUM, a count, and that many characters. The data have the right length and are judged 8. They begin at place `from` of a body.
 fn say_text(numbers: Num, from: usize, data: &[u8]) -> Told
     requires { ⌜ (lengthRight Length.Counted (now «data») ≡ true) × (from ≤ 255) ⌝ }
     ensures { λ r. ⌜ r ≡ said (Row.Text numbers) from (now («data» .entry)) ⌝ }
@@ -108,7 +108,7 @@ fn say_text(numbers: Num, from: usize, data: &[u8]) -> Told
     )
 }
 
-// EVENT and six bytes: data of the right length, judged 8. They begin at place `from` of a body.
+// EVENT and six bytes. The data have the right length and are judged 8. They begin at place `from` of a body.
 fn say_event(from: usize, data: &[u8]) -> Told
     requires { ⌜ (length (now «data») ≡ 7) × (from ≤ 255) ⌝ }
     ensures { λ r. ⌜ r ≡ said Row.Event from (now («data» .entry)) ⌝ }
@@ -126,7 +126,7 @@ fn say_event(from: usize, data: &[u8]) -> Told
     )
 }
 
-// What data of the right length say, judged 8. They begin at place `from` of a body.
+// What data of the right length say. They are judged 8 and begin at place `from` of a body.
 fn say(row: Row, from: usize, data: &[u8]) -> Told
     requires { ⌜ (lengthRight (lengthOf row) (now «data») ≡ true) × (from ≤ 255) ⌝ }
     ensures { λ r. ⌜ r ≡ said row from (now («data» .entry)) ⌝ }
@@ -171,7 +171,7 @@ fn say(row: Row, from: usize, data: &[u8]) -> Told
     }
 }
 
-// Code and data judged 6, 7, 8, and what they say. In a body the data stand behind the address and the code.
+// What code and data say, judged 6, 7, 8. In a body the data stand behind the address and the code.
 pub fn tell(role: Role, address: Address, code: u8, data: &[u8]) -> Told
     ensures { λ r. ⌜ r ≡ told role address code (now («data» .entry)) ⌝ }
 {

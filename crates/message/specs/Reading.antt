@@ -22,7 +22,7 @@ unfoldable pub messageOf : Role → Address → ℕ → List ℕ → Message
 messageOf role address code data′ =
     record { address = address; code = code; from = dataFrom address; to = dataFrom address + length data′; what = meaning (rowOf role code) (dataFrom address) data′ }
 
--- a lent body, given whether its check is right: 2, 1, 4, 5, and then 6, 7, 8
+-- a lent body, judged 2, 1, 4, 5, and then 6, 7, 8; an argument says whether its check is right
 abbrev pub judgedBodyIf : Bool → Role → List ℕ → Verdict
 judgedBodyIf right role body = judgedThen (judgedLentIf right body) (judgedMessage role (codeIn body) (dataIn body))
 
@@ -38,7 +38,7 @@ abbrev pub verdictOf : Received → Verdict
 verdictOf (received-as.Message message) = Good
 verdictOf (received-as.Refused why) = Refused why
 
--- the message that a lent body holds, or the refusal it earns, given whether its check is right: one that a line handed out had a right one
+-- the message that a lent body holds, or the refusal it earns; an argument says whether the check is right. A line hands out only right ones
 unfoldable pub readIf : Bool → Role → List ℕ → Received
 readIf right role body = receiving (judgedBodyIf right role body) (messageOf role (addressIn body) (codeIn body) (dataIn body))
 

@@ -16,6 +16,6 @@ unfoldable pub judgedMessageWrite : Role → Address → ℕ → List ℕ → Li
 judgedMessageWrite role address code data′ room =
     judgedAddress address (judgedThen (judgedMessage role code data′) (judgedLength (bodyOf address code data′) (judgedRoom (needed (bodyOf address code data′)) room)))
 
--- the message's frame in the first bytes of the room, every other byte as it stood; refused, every byte as it stood
+-- the message's frame stands in the first bytes of the room, and every other byte is as it stood; if refused, every byte is as it stood
 unfoldable pub writtenMessage : Role → Address → ℕ → List ℕ → List ℕ → Left
 writtenMessage role address code data′ room = wrote (judgedMessageWrite role address code data′ room) (framed (bodyOf address code data′)) room

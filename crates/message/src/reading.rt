@@ -1,4 +1,4 @@
-// Reading: a lent body and a role to a message.
+// Reading a lent body in a role as a message.
 use body::Address;
 use body::Opened;
 use body::check_right;
@@ -11,8 +11,8 @@ use refusal::Refusal;
 ghost use mathlib.Core.Path.{_≡_};
 ghost use Rattle.message.specs.Reading.{readIf, readMessage};
 
-// A message. Its data are the bytes of the lent body from place `from` up to, not including, place `to`: handed to the writer with
-// the same role, address and code they make the same body.
+// A message. Its data are the bytes of the lent body from place `from` up to but not including place `to`. Handed to the writer with
+// the same role, address and code, they make the same body.
 pub struct Message {
     pub address: Address,
     pub code: u8,
@@ -27,8 +27,8 @@ pub enum Received {
     Refused(Refusal),
 }
 
-// A lent body read in a role, given whether its check is right. Judged 2, 1, 4, 5, and then 6, 7, 8. The check of a body that a
-// line handed out was found right there: it need not be made again.
+// A lent body read in a role. An argument tells whether its check is right. Judged 2, 1, 4, 5, and then 6, 7, 8. The line has found the
+// check right in a body that it handed out, so it need not be tested again.
 pub fn read_without_check(role: Role, right: bool, body: &[u8]) -> Received
     ensures { λ r. ⌜ r ≡ readIf right role (now (body .entry)) ⌝ }
 {

@@ -1,4 +1,4 @@
-// Writing: role, address, code and the data bytes of the table's row to a frame in lent room.
+// Writing a frame into lent room, from role, address, code and the data bytes of the table's row.
 use body::Address;
 use body::legal;
 use codes::Role;
@@ -10,7 +10,7 @@ use room::refused_write;
 ghost use Rattle.room.specs.Writing.{Leaves};
 ghost use Rattle.message.specs.Writing.{writtenMessage};
 
-// The frame of a message into lent room. Judged 5, 6, 7, 8, 2, 9.
+// Writes the frame of a message into lent room. Judged 5, 6, 7, 8, 2, 9.
 pub fn write(role: Role, address: Address, code: u8, data: &[u8], room: &mut [u8]) -> Written
     ensures { λ r. ⌜ Leaves (writtenMessage role address code (now («data» .entry)) (now (room .entry))) r (now (room .exit)) ⌝ }
 {

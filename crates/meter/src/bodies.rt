@@ -1,4 +1,4 @@
-// Reading bodies of 7 bytes as replies: as many as a block has. Of each message all that it says goes into the sum.
+// Reading bodies of 7 bytes as replies, as many as a block has. All that each message says goes into the sum.
 use crate::tally::Counts;
 use crate::tally::good;
 use crate::tally::refused;

@@ -1,4 +1,4 @@
-// Listening, byte by byte and block by block. Of each event both places go into the sum, and the number of a refusal.
+// Listening, byte by byte and block by block. Both places of each event go into the sum, and so does the number of a refusal.
 use crate::tally::Counts;
 use crate::tally::Tally;
 use crate::tally::good;
@@ -24,7 +24,7 @@ fn counted(counts: Counts, event: Event) -> Counts {
     }
 }
 
-// A block to its end, the reader handed in and out by value with each byte.
+// Takes a block to its end. The reader is handed in and out by value with each byte.
 pub(crate) fn take_bytes(tally: Tally, block: &[u8]) -> Tally {
     let mut counts = tally.counts;
     let mut reader = tally.reader;
@@ -40,7 +40,7 @@ pub(crate) fn take_bytes(tally: Tally, block: &[u8]) -> Tally {
     Tally { reader, counts }
 }
 
-// A block to its end, event by event, the reader taken apart once.
+// Takes a block to its end, event by event. The reader is taken apart once.
 pub(crate) fn listen(tally: Tally, block: &[u8]) -> Tally {
     let mut counts = tally.counts;
     let mut reader = tally.reader;

@@ -1,4 +1,4 @@
-// Writing records made of 20 bytes of the input each, one behind the other into the room of a page. The sum is that of the page's bytes.
+// Writing records, each made of 20 bytes of the input, one behind the other into the room of a page. The sum is that of the page's bytes.
 use crate::tally::Counts;
 use crate::tally::good;
 use crate::tally::refused;
@@ -20,7 +20,7 @@ fn word(first: u8, second: u8, third: u8, fourth: u8) -> u32 {
     low | high << 16
 }
 
-// The fields as a log has them. Nothing is judged here: the writer does.
+// The fields as a log has them. Nothing is judged here, since the writer judges.
 fn record_in(bytes: &[u8]) -> Record
     requires { ⌜ length (now bytes) ≡ 20 ⌝ }
 {

@@ -1,5 +1,5 @@
-// What the proved layers cost is measured with this program (bench/run): standard input is taken through one of them in blocks, and counts
-// and a sum are told at its end. The same work in C tells the same counts and the same sum.
+// bench/run measures with this program what the proved layers cost. The program takes standard input through one of them in blocks. At the
+// end it tells counts and a sum. The same work in C tells the same counts and the same sum.
 //
 // The argument names the work: check, byte, block (also without an argument), message, record.
 mod bodies;
@@ -23,7 +23,7 @@ enum Work {
     Unknown,
 }
 
-// A work by its first letters, which differ. The rest of the word is not looked at.
+// The work that a word names by its first letters, which differ. The rest of the word is not looked at.
 fn work_of(first: u8, second: u8) -> Work {
     match first {
         b'c' => Work::Check,
@@ -65,8 +65,8 @@ fn measure(work: Work, tally: Tally, block: &[u8], page: &mut [u8]) -> Tally {
     }
 }
 
-// Standard input to its end, as much at a time as a block holds. A proved loop has to end, and nothing says that an input does: its turns
-// are counted down from a number that no run uses up.
+// Takes standard input to its end, as much at a time as a block holds. A proved loop has to end, but nothing says that an input ends. So the
+// turns are counted down from a number that no run uses up.
 fn measure_all(work: Work, block: &mut [u8], page: &mut [u8]) -> Counts {
     let mut tally = tally::fresh();
     let mut turns = u64::MAX;

@@ -1,4 +1,4 @@
--- A block fed across: what `line` gives a place and a lent room of 255 bytes; 8 where the place has no such phase, and then nothing is taken.
+-- A block fed from another language: what `line` gives a place and a lent room of 255 bytes. 8 if the phase does not exist; then nothing is taken.
 use Prim.Native.Nat.{ℕ}
 use mathlib.Core.Path.{_≡_}
 use mathlib.Core.Bool.{cond}

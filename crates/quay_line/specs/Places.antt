@@ -1,4 +1,4 @@
--- Where a reader stands, and the events it gives, as they cross to another language, as numbers.
+-- Where a reader stands and the events it gives, as the numbers that cross to another language.
 use Prim.Native.Nat.{ℕ}
 use mathlib.Core.Bool.{cond}
 use lib.Dec.{eqb}

@@ -16,7 +16,7 @@ pub struct QuayWent {
     pub place: QuayPlace,
     pub event: QuayEvent,
     pub used: usize,
-    pub refusal: u8, // of the call: 8 where the place handed in has no such phase
+    pub refusal: u8, // of the call: 8 where the place handed in has a phase that does not exist
 }
 
 const HIGHEST_PHASE: u8 = 3;
@@ -34,8 +34,8 @@ fn went_out(went: Went) -> QuayWent
     }
 }
 
-// A block in: up to and with the first event, or to the block's end. The body of a frame just heard stands at the front of `body`,
-// which is lent again with the next block as it was left.
+// Takes a block up to and including the first event, or to the block's end. The body of a frame just heard stands at the front of `body`.
+// The caller lends `body` again with the next block, as it was left.
 #[no_mangle]
 pub extern "C" fn quay_listen(place: QuayPlace, block: &[u8], body: &mut [u8; 255]) -> QuayWent
     ensures { λ r. ⌜ Listened place (now (block .entry)) (now (body .entry)) r (now (body .exit)) ⌝ }

@@ -1,4 +1,4 @@
--- Lines across: what `listing` writes of an event, and what it was, for the counts of the total.
+-- Lines for another language: what `listing` writes of an event, and what was listed, for the counts of the total.
 use Prim.Native.Nat.{ℕ}
 use mathlib.Core.Path.{_≡_}
 use mathlib.Core.List.{List}
@@ -33,7 +33,7 @@ pub record ListsEntry (number : ℕ) (entry : Entry) (before : List ℕ) (answer
   pub answer : answered ≡ listedOut entry (writtenLine number entry before .answer)
   pub room : left ≡ writtenLine number entry before .room
 
--- the answer and the room of an event that was handed in; refused, length 0 beside its number and every byte as it stood
+-- the answer and the room of an event that was handed in; if refused, length 0 beside its number, and every byte is as it stood
 abbrev pub listedGiven : ℕ → Given → List ℕ → List ℕ → QuayListed
 listedGiven number (given-as.Event event) body room =
     listedOut (entryHeard (heardAs event body)) (writtenLine number (entryHeard (heardAs event body)) room .answer)

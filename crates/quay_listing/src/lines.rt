@@ -15,7 +15,7 @@ ghost use Rattle.listing.specs.Writing.{writtenTotal};
 ghost use Rattle.crossing.specs.Writing.{LeavesAcross};
 ghost use Rattle.quay_listing.specs.Lines.{entryNumber, unlisted, Lists, ListsEntry};
 
-// The line's length, or 0 beside a refusal; and what was listed, for the counts of the total.
+// The line's length, or 0 beside a refusal. And what was listed, for the counts of the total.
 #[repr(C)]
 pub struct QuayListed {
     pub length: usize,
@@ -56,8 +56,8 @@ fn list_entry(number: u64, entry: Entry, room: &mut [u8]) -> QuayListed
     }
 }
 
-// The line of an event, as the event of that number; a frame's body stands at the front of the lent bytes, and is judged again. Judged
-// 8 for a kind of event or a refusal that is none, and then 9.
+// Writes the line of an event, as the event of that number. A frame's body stands at the front of the lent bytes and is judged again. Judged
+// 8 for a kind of event that does not exist or a refusal that no line can meet, and then 9.
 #[no_mangle]
 pub extern "C" fn quay_list_event(
     number: u64,

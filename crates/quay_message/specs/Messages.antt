@@ -1,4 +1,4 @@
--- Messages across: what a body says, as numbers, four weight bytes, or a place in the body.
+-- Messages for another language: what a body says, as numbers, four weight bytes, or a place in the body.
 use Prim.Native.Nat.{ℕ}
 use mathlib.Core.List.{List}
 use Rattle.refusal.specs.declared.Refusal.{Refusal}
@@ -20,7 +20,7 @@ use Rattle.crossing.specs.declared.roles.Asked.the-variants as asked-as
 use Rattle.quay_message.specs.declared.messages.QuayWhat.{QuayWhat}
 use Rattle.quay_message.specs.declared.messages.QuayMessage.{QuayMessage}
 
--- no half of these bytes is a digit: they read as no weight
+-- no half of these bytes is a digit, so they read as no weight
 abbrev pub noWeight : QuayWeight
 noWeight = record { w0 = 255; w1 = 255; w2 = 255; con = 255 }
 
@@ -72,7 +72,7 @@ abbrev pub receivedOut : Received → QuayMessage
 receivedOut (received-as.Message message) = messageOut message
 receivedOut (received-as.Refused why) = noMessage why
 
--- a body read in a role that was handed in; a role that is none is refused ahead of the body's own
+-- a body read in a role that was handed in; a role that does not exist is refused ahead of the body's own refusals
 abbrev pub messageIn : Asked → List ℕ → QuayMessage
 messageIn (asked-as.Role role) body = receivedOut (readMessage role body)
 messageIn (asked-as.Refused why) body = noMessage why

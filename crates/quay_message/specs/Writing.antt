@@ -1,4 +1,4 @@
--- Messages written across: the message layer's write, in a role and to an address that were handed in as numbers.
+-- Messages written for another language: the message layer's write. Role and address are handed in as numbers.
 use Prim.Native.Nat.{ℕ}
 use mathlib.Core.List.{List}
 use Rattle.room.specs.Writing.{Left}
@@ -8,7 +8,7 @@ use Rattle.crossing.specs.declared.roles.Asked.the-variants as asked-as
 use Rattle.crossing.specs.Writing.{unwritten}
 use Rattle.quay_message.specs.Addresses.{addressFrom}
 
--- a role that is none is refused ahead of the message's own
+-- a role that does not exist is refused ahead of the message's own refusals
 abbrev pub writtenIn : Asked → ℕ → ℕ → ℕ → List ℕ → List ℕ → Left
 writtenIn (asked-as.Role role) short serial code data′ room = writtenMessage role (addressFrom short serial) code data′ room
 writtenIn (asked-as.Refused why) short serial code data′ room = unwritten why room

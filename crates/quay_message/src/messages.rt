@@ -18,7 +18,7 @@ ghost use Rattle.weight.specs.Bytes.{packedOf};
 ghost use Rattle.crossing.specs.Roles.{roleFrom};
 ghost use Rattle.quay_message.specs.Messages.{noWeight, weightOut, plain, placed, whatOut, messageOut, noMessage, receivedOut, messageIn};
 
-// What a message says. A number, a count or a weight that its kind does not have is all ones, and so nothing that could be said.
+// What a message says. A number, a count or a weight that its kind does not have is all ones. No message can say that.
 #[repr(C)]
 pub struct QuayWhat {
     pub number: u64, // serial, NUM, status, the bits of inputs or outputs, EVENT, the converter's number, NER
@@ -162,7 +162,7 @@ fn received_out(received: Received) -> QuayMessage
     }
 }
 
-// A lent body read in a role. Judged 8 for a role that is none, and then 2, 1, 4, 5, 6, 7, 8.
+// A lent body read in a role. Judged 8 for a role that does not exist, and then 2, 1, 4, 5, 6, 7, 8.
 #[no_mangle]
 pub extern "C" fn quay_read_message(role: u8, body: &[u8]) -> QuayMessage
     ensures { λ r. ⌜ r ≡ messageIn (roleFrom role) (now (body .entry)) ⌝ }

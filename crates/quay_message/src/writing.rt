@@ -26,7 +26,7 @@ pub extern "C" fn quay_write_frame(
     written_out(written)
 }
 
-// The frame of a message, in a role. Judged 8 for a role that is none, and then 5, 6, 7, 8, 2, 9.
+// The frame of a message, in a role. Judged 8 for a role that does not exist, and then 5, 6, 7, 8, 2, 9.
 #[no_mangle]
 pub extern "C" fn quay_write_message(
     role: u8,

@@ -1,4 +1,4 @@
--- Weights across: four bytes in; a reading, a value or kilograms out. What is refused has fields that no weight has.
+-- Weights for another language. Four bytes go in; a reading, a value or kilograms come out. A refused answer has fields that no weight has.
 use Prim.Native.Nat.{ℕ}
 use mathlib.Core.Bool.{Bool, true, false}
 use lib.IntN.{ℤ, negsuc}
@@ -61,7 +61,7 @@ readingOut (read-as.Refused why) = noReading why
 
 -- ---- a value
 
--- the lowest number of 64 bits: no weight is as low
+-- the lowest number of 64 bits: no weight is so low
 abbrev pub noValue : ℤ
 noValue = negsuc 9_223_372_036_854_775_807
 

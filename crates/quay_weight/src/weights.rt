@@ -1,4 +1,4 @@
-// Weights: four bytes in, as the wire and the log have them; a reading, its value, a difference, and kilograms out.
+// Weights. Four bytes go in, as the wire and the log have them. A reading, its value, a difference or kilograms come out.
 use crossing::QuayWeight;
 use kilograms::Kilograms;
 use kilograms::kilograms_of;
@@ -13,7 +13,7 @@ use weight::value_of;
 ghost use mathlib.Core.Path.{_≡_};
 ghost use Rattle.quay_weight.specs.Weights.{weightIn, mark, goodReading, noReading, readingOut, valueOut, valueRead, differenceRead, kilogramsOut, kilogramsRead};
 
-// What a terminal shows. The marks are 0 or 1. Refused, the number and the marks are all ones, and no digit stands behind the point: number and
+// What a terminal shows. The marks are 0 or 1. If refused, the number and the marks are all ones and the point is 0: number and
 // point together are far above any weight.
 #[repr(C)]
 pub struct QuayReading {
@@ -27,14 +27,14 @@ pub struct QuayReading {
     pub refusal: u8,
 }
 
-// A signed whole number of tenths of a milligram. Refused, the lowest number there is: it weighs nothing like it.
+// A signed whole number of tenths of a milligram. If refused, it is the lowest number there is. No weight is so low.
 #[repr(C)]
 pub struct QuayValue {
     pub value: i64,
     pub refusal: u8,
 }
 
-// A weight in kilograms. Refused, it is not a number.
+// A weight in kilograms. If refused, it is not a number.
 #[repr(C)]
 pub struct QuayKilograms {
     pub kilograms: f64,

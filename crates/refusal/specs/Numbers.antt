@@ -1,4 +1,4 @@
--- 01, "What the answers mean": the number of each refusal, and verdicts that are reached in an order.
+-- 01, "What the answers mean": the number of each refusal, and verdicts whose tests have an order.
 use Prim.Native.Nat.{ℕ}
 use mathlib.Core.Bool.{Bool, true, false, cond, _&&_}
 use mathlib.Core.List.{List, [], _∷_}
@@ -40,12 +40,12 @@ namedOf number = namedIn all number
 abbrev pub lineStatus : ℕ → Bool
 lineStatus number = leb 1 number && leb number 8
 
--- the number of a verdict: 0 where nothing is refused
+-- the number of a verdict: 0 if nothing is refused
 abbrev pub verdictNumber : Verdict → ℕ
 verdictNumber Good = 0
 verdictNumber (Refused why) = numberOf why
 
--- "the order is 1, 4, 5": a chain of tests, of which the first that holds refuses
+-- "the order is 1, 4, 5": a chain of tests; the first test that holds refuses
 abbrev pub refuseIf : Bool → Refusal → Verdict → Verdict
 refuseIf true why after = Refused why
 refuseIf false why after = after

@@ -49,14 +49,14 @@ pub fn number(refusal: Refusal) -> u8
     }
 }
 
-// Whether a line can meet the refusal with this number; the others are of writing, and of a log.
+// Whether a line can meet the refusal with this number. The other refusals are of writing and of a log.
 pub fn line_status(number: u8) -> bool
     ensures { λ r. ⌜ r ≡ lineStatus number ⌝ }
 {
     (1 <= number) & (number <= 8)
 }
 
-// The refusal of a number, as a caller of another language or a log's record has it.
+// The refusal with a number that a caller in another language or a log's record gives.
 pub fn of_number(number: u8) -> Named
     ensures { λ r. ⌜ r ≡ namedOf number ⌝ }
 {

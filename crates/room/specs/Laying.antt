@@ -1,4 +1,4 @@
--- Bytes laid into a lent room from some place on, a piece after the other: what a write is made of.
+-- Bytes laid into a lent room from some place on, one piece after the other. A write is made of such pieces.
 use Prim.Native.Nat.{ℕ, _+_}
 use mathlib.Core.Path.{_≡_}
 use mathlib.Core.Bool.{cond}
@@ -6,15 +6,15 @@ use mathlib.Core.List.{List, _++_}
 use lib.ListN.{length, take, drop}
 use lib.Dec.{leb}
 
--- bytes laid over the front of a room, every other byte as it stood
+-- bytes laid over the front of a room; every other byte is as it stood
 abbrev pub over : List ℕ → List ℕ → List ℕ
 over bytes room = bytes ++ drop (length bytes) room
 
--- bytes laid into a room from place `at` on; where they would pass its end, every byte stays as it stood
+-- bytes laid into a room from place `at` on; if they would pass its end, every byte stays as it stood
 unfoldable pub laid : ℕ → List ℕ → List ℕ → List ℕ
 laid at bytes room = cond (leb (at + length bytes) (length room)) (over (take at room ++ bytes) room) room
 
--- the place behind them, or the same place where they did not fit
+-- the place after them, or the same place if they did not fit
 unfoldable pub behind : ℕ → List ℕ → List ℕ → ℕ
 behind at bytes room = cond (leb (at + length bytes) (length room)) (at + length bytes) at
 

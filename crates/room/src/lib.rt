@@ -1,5 +1,5 @@
-// Lent room: what a write answers, and bytes laid into a room one piece after the other. A room is the
-// caller's; what is not written stays as it stood. And the front of bytes lent to be read.
+// Lent room: what a write answers, and bytes laid into a room one piece after the other. A room belongs to
+// the caller. Bytes that are not written stay as they stood. Also the front of bytes lent for reading.
 use refusal::Refusal;
 use refusal::Verdict;
 ghost use mathlib.Core.Path.{_≡_};
@@ -24,7 +24,7 @@ pub fn refused_write(why: Refusal) -> Written
     }
 }
 
-// One byte into a room at a place. It answers the place behind it; at or past the room's end nothing is laid.
+// Lays one byte into a room at a place and answers the place after it. At or past the room's end nothing is laid.
 pub fn lay_byte(byte: u8, room: &mut [u8], at: usize) -> usize
     ensures { λ r. ⌜ Laid at (byte ∷ []) (now (room .entry)) r (now (room .exit)) ⌝ }
 {
@@ -35,8 +35,8 @@ pub fn lay_byte(byte: u8, room: &mut [u8], at: usize) -> usize
     at + 1
 }
 
-// All bytes of a slice into a room from a place on. It answers the place behind them; where they would pass
-// the room's end nothing is laid.
+// Lays all bytes of a slice into a room from a place on and answers the place after them. If they would pass
+// the room's end, nothing is laid.
 pub fn lay(source: &[u8], room: &mut [u8], at: usize) -> usize
     ensures { λ r. ⌜ Laid at (now (source .entry)) (now (room .entry)) r (now (room .exit)) ⌝ }
 {
@@ -50,7 +50,7 @@ pub fn lay(source: &[u8], room: &mut [u8], at: usize) -> usize
     at + count
 }
 
-// The first bytes that were lent, or all of them where fewer are lent.
+// The first bytes that were lent, or all of them if fewer are lent.
 pub fn front(lent: &[u8], count: usize) -> &[u8]
     ensures { λ r. ⌜ now r ≡ take count (now (lent .entry)) ⌝ }
 {

@@ -1,5 +1,5 @@
-// What a case hands in beside its text: numbers, low byte first, taken from standard input one after the other. Past its end they
-// are 0, so that a case cut short gives a wrong answer, which is seen.
+// What a case hands in beside its text: numbers, low byte first, taken from standard input one after the other. Past the input's end they
+// are 0. So a case cut short gives a wrong answer, and that is seen.
 use body::Address;
 use codes::Role;
 use libc::STDIN_FILENO;
@@ -97,7 +97,7 @@ pub(crate) fn take_reading() -> Reading {
     }
 }
 
-// The bytes from one place up to, not including, another; a part past the end is empty.
+// The bytes from one place up to but not including another. A part past the end is empty.
 pub(crate) fn part(text: &[u8], from: usize, to: usize) -> &[u8] {
     if to < from {
         return &text[0..0];

@@ -37,7 +37,7 @@ fn take_place() -> Place {
     }
 }
 
-// The refusal's number or that of none for a frame, eight bytes of the wire count, eight of the kept count.
+// The refusal's number (for a frame, the number that stands for none), eight bytes of the wire count, eight of the kept count.
 pub(crate) fn take_event() -> Event {
     let number = take_byte();
     let wire = WirePlace(take_number());
@@ -67,7 +67,7 @@ fn phase_number(phase: Phase) -> u8 {
     }
 }
 
-// A state handed back: what lies behind its kept bytes is of older bodies, and is not told.
+// A state handed back. The bytes behind its kept bytes are of older bodies and are not told.
 fn say_place(place: Place, body: &[u8]) {
     let kept = place.kept.0;
     let phase = place.phase;

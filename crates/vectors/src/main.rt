@@ -1,8 +1,8 @@
 // Runs the cases of the second model (tests/model) through the proved functions and tells the answers.
 //
-// A case on standard input is one byte of its function, a text with two bytes of its length ahead, for a writer the room as it is lent in
-// the same way, and then numbers. Its answer on standard output is a line: the function's number, and the words of the answer.
-// tests/model/README.md has the layouts; each function here says its own.
+// A case on standard input is one byte for its function, two bytes of length and a text, and then numbers. A writer's case has two bytes of
+// length and the lent room between text and numbers. The answer on standard output is a line: the function's number, and the words of the
+// answer. tests/model/README.md has the layouts. Each function here says its own.
 mod frames;
 mod given;
 mod lines;
@@ -95,7 +95,7 @@ fn run_function(function: u8) -> bool {
     run_text(function, &mut space[0..length])
 }
 
-// One case. False at the end of the input, and where an answer could not be written.
+// Runs one case. False at the end of the input, and if an answer could not be written.
 fn run_case() -> bool {
     let mut one = [0u8; 1];
     if io::read_full(STDIN_FILENO, &mut one) == 0 {

@@ -45,14 +45,14 @@ pub(crate) fn write() {
     }
 }
 
-// A float by its bits. A NaN equals nothing, itself too, and has none that can be told.
+// A float by its bits. A NaN equals nothing, not even itself, and has no bits that can be told.
 fn say_float(float: f64) {
     if float == float {
         say_bits(f64::to_bits(float))
     }
 }
 
-// A whole number as the float nearest to it: below 2^53 that is the number itself, and no other whole number has the same one.
+// A whole number as the float nearest to it. Below 2^53 that float is the number itself, and no other whole number has the same float.
 fn say_value(value: Value) {
     match value {
         Value::Refused(why) => say_refusal(why),

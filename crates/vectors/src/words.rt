@@ -80,7 +80,7 @@ pub(crate) fn say_written(written: Written, room: &[u8]) {
     say_bytes(room)
 }
 
-// A kind and a number: what is told of which kind is said where it is called.
+// A kind and a number. The caller says which number belongs to which kind.
 pub(crate) fn say_tagged(tag: u8, number: u64) {
     say_small(tag);
     say_number(number)

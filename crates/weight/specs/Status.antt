@@ -1,5 +1,5 @@
 -- 01, "Weight": "CON: bit 7 minus, 6 and 5 carried as two plain bits (the documents disagree on them), 4 settled, 3 overload, 2 to 0 the
--- digits after the point, 0 to 7." The layout is `bitOf` and the three bits below it; what is read and what is written both go by it.
+-- digits after the point, 0 to 7." The layout is `bitOf` and the three bits below it. Reading and writing both use it.
 use Prim.Native.Nat.{ℕ, _+_, _/_, _%_, _^_}
 use mathlib.Core.Bool.{Bool, true, false}
 use lib.Dec.{eqb}

@@ -14,7 +14,7 @@ abbrev pub signed : Bool → ℕ → ℤ
 signed true size = negℤ (pos size)
 signed false size = pos size
 
--- the value of a reading, or refusal 8: every user of a value asks here
+-- the value of a reading, or refusal 8; every user of a value asks here
 unfoldable pub valueOf : Reading → Value
 valueOf reading = cond (inRange reading) (Tenths (signed (reading .minus) (reading .number * 10 ^ (7 - reading .point)))) (Refused FieldOutside)
 
@@ -24,6 +24,6 @@ less (Tenths gross) (Tenths net) = Tenths (gross -ℤ net)
 less (Tenths gross) (Refused why) = Refused why
 less (Refused why) net = Refused why
 
--- gross less net: 8 of either first, and then what the values say
+-- gross less net: first 8 of either reading, and then what the values say
 unfoldable pub differenceOf : Reading → Reading → Value
 differenceOf gross net = cond (inRange gross && inRange net) (less (valueOf gross) (valueOf net)) (Refused FieldOutside)

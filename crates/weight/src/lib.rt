@@ -91,7 +91,7 @@ fn weigh(mark: bool, place: u8) -> u8
     if mark { place } else { 0 }
 }
 
-// The number and the point lie in their ranges: asked wherever a reading is used.
+// Whether the number and the point lie in their ranges. This is asked wherever a reading is used.
 pub fn in_range(reading: Reading) -> bool
     ensures { λ r. ⌜ r ≡ inRange reading ⌝ }
 {
@@ -124,7 +124,7 @@ fn step(point: u8) -> u64
     STEPS[point as usize]
 }
 
-// Widened before it is multiplied: the product passes 32 bits.
+// The number is widened before it is multiplied, because the product passes 32 bits.
 fn widened(number: u32) -> u64
     ensures { λ r. ⌜ r ≡ number ⌝ }
 {
@@ -149,7 +149,7 @@ fn with_sign(minus: bool, size: u64) -> i64
     if minus { -tenths } else { tenths }
 }
 
-// W0 W1 W2 CON to a reading, as the message layer and the log have them: four bytes of a longer slice.
+// Reads W0 W1 W2 CON, as the message layer and the log have them: four bytes of a longer slice.
 pub fn read_bytes(w0: u8, w1: u8, w2: u8, con: u8) -> Read
     ensures { λ r. ⌜ r ≡ readOf w0 w1 w2 con ⌝ }
 {
@@ -186,7 +186,7 @@ pub fn to_bytes(reading: Reading) -> Packed
     }
 }
 
-// The value of a reading: every user of a value goes through here.
+// The value of a reading. Every user of a value goes through here.
 pub fn value_of(reading: Reading) -> Value
     ensures { λ r. ⌜ r ≡ valueOf reading ⌝ }
 {
@@ -198,7 +198,7 @@ pub fn value_of(reading: Reading) -> Value
     }
 }
 
-// Gross less net, which may be negative. Neither reading is asked which of the two it is: it does not know.
+// Gross less net, which may be negative. A reading does not know whether it is gross or net, so this is not asked.
 pub fn gross_less_net(gross: Reading, net: Reading) -> Value
     ensures { λ r. ⌜ r ≡ differenceOf gross net ⌝ }
 {
