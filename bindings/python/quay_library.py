@@ -1,7 +1,7 @@
 """The library itself: its structs and functions as ctypes sees them, and how it is found and loaded.
 
 Most programs want `quay` instead. Here every answer is the struct that the library gives, refused or not. If its field
-`refusal` is not 0, no other field of it says anything.
+`refusal` is not 0, no other field of it can pass for a weight.
 """
 from __future__ import annotations
 
@@ -65,7 +65,7 @@ class QuayKilograms(ctypes.Structure):
 
 
 class QuayWhat(ctypes.Structure):
-    """What a message says. Fields that its kind does not have are 0, and its weight four times FF."""
+    """What a message says. A number, a count or a weight that its kind does not have is all ones."""
     _fields_ = [('number', c_uint64), ('from_', c_size_t), ('to', c_size_t), ('on', c_uint32), ('weight', QuayWeight),
                 ('load', c_uint8), ('says', c_uint8)]
 

@@ -107,7 +107,7 @@ pub fn read_message(role: Role, body: &[u8]) -> Result<Message<'_>, Refusal> {
     })
 }
 
-// The numbers below are as wide as their fields on the wire: serial three bytes, bits four, the others one.
+// The numbers below are as wide as their fields on the wire: serial three bytes, bits four, the converter five, the others one.
 fn said(what: raw::QuayWhat, body: &[u8]) -> Says<'_> {
     let number = what.number;
     match what.says {
