@@ -13,7 +13,7 @@ use lib.Seq.{slice, take-at, take-suc, take-take, take-length, slice-cons}
 use lib.Pow.{areBytes}
 use Rattle.refusal.specs.declared.Verdict.the-variants.{Good}
 use Rattle.refusal.proofs.Verdicts.{test-passed, rest-passed}
-use Rattle.laws.proofs.ByteLists.{byte-at}
+use Rattle.laws.proofs.ByteLists.{byte-at, placed, front-by-place}
 use Rattle.check_byte.specs.Register.{received, checkOf}
 use Rattle.check_byte.proofs.Laws.{checked, only-check}
 use Rattle.low_first.specs.LowFirst.{lowBytes}
@@ -23,7 +23,7 @@ use Rattle.body.specs.declared.addresses.Address.the-variants.{Short, Se
 use Rattle.body.specs.Addresses.{highestShort, legal, addressBytes, addressIn, addressLength}
 use Rattle.body.specs.Body.{longest, unchecked, bodyOf, short, judged, judgedLent, codeIn, dataIn}
 use Rattle.body.proofs.Anatomy.{body-length}
-use Rattle.body.proofs.Shortness.{three, address-inside, six, not-short}
+use Rattle.body.proofs.Shortness.{three, address-inside, six, not-short, good-not-short}
 
 -- ---- what a good body is known to have
 
@@ -37,12 +37,8 @@ unfolding judged
 good-address body good =
     not-false _ (test-passed (not (legal (addressIn body))) _ _ (rest-passed (not (eqb (received body) 0)) _ _ (rest-passed (short body) _ _ good)))
 
-pub good-long : (body : List ℕ) → judged body ≡ Good → short body ≡ false
-unfolding judged
-good-long body good = test-passed (short body) _ _ good
-
 pub good-not-empty : judged [] ≡ Good → ⊥
-good-not-empty good = let long = three [] (good-long [] good) in omega arith
+good-not-empty good = let long = three [] (good-not-short [] good) in omega arith
 
 -- a lent body that is good has at most 255 bytes, and is good at its end
 pub lent-at-most : (body : List ℕ) → judgedLent body ≡ Good → length body ≤ longest
@@ -127,34 +123,23 @@ module _ (code : ℕ) (data′ : List ℕ) where
 
 -- ---- taken apart and put together
 
-first-one : (l : List ℕ) → 1 ≤ length l → take 1 l ≡ getD l 0 0 ∷ []
-first-one [] h = absurd (omega arith)
-first-one (a ∷ l) h = refl
-
-first-four : (l : List ℕ) → 4 ≤ length l → take 4 l ≡ getD l 0 0 ∷ getD l 1 0 ∷ getD l 2 0 ∷ getD l 3 0 ∷ []
-first-four [] h = absurd (omega arith)
-first-four (a ∷ []) h = absurd (omega arith)
-first-four (a ∷ b ∷ []) h = absurd (omega arith)
-first-four (a ∷ b ∷ c ∷ []) h = absurd (omega arith)
-first-four (a ∷ b ∷ c ∷ d ∷ l) h = refl
-
 module _ (body : List ℕ) (all : T (areBytes body)) where
   three-bytes : T (areBytes (getD body 1 0 ∷ getD body 2 0 ∷ getD body 3 0 ∷ []))
   three-bytes = rw (lt-ltb _ _ (byte-at body all 1), lt-ltb _ _ (byte-at body all 2), lt-ltb _ _ (byte-at body all 3)) tt
 
   -- the bytes that the address takes spell it
   spelled : short body ≡ false → take (addressLength (addressIn body)) body ≡ addressBytes (addressIn body)
-  unfolding addressIn addressLength addressBytes
+  unfolding addressIn addressLength addressBytes placed
   spelled enough = by-first (eqb (getD body 0 0) 0) refl
     where
       by-first : (test : Bool) → eqb (getD body 0 0) 0 ≡ test → take (addressLength (addressIn body)) body ≡ addressBytes (addressIn body)
       by-first true zero-first =
           let is-zero = eqb-true (getD body 0 0) 0 zero-first in
-          let four = first-four body (omega (arith, six body enough is-zero)) in
+          let four = front-by-place 4 body (omega (arith, six body enough is-zero)) in
           rw zero-first
           (four ∙ ap (λ (n : ℕ). n ∷ getD body 1 0 ∷ getD body 2 0 ∷ getD body 3 0 ∷ []) is-zero
           ∙ ap (λ (l : List ℕ). 0 ∷ l) (sym (bytes-back (getD body 1 0 ∷ getD body 2 0 ∷ getD body 3 0 ∷ []) three-bytes)))
-      by-first false other = rw other (first-one body (omega (arith, address-inside body enough)))
+      by-first false other = rw other (front-by-place 1 body (omega (arith, address-inside body enough)))
 
   -- everything before the check
   begins : short body ≡ false → take (length body - 1) body ≡ unchecked (addressIn body) (codeIn body) (dataIn body)
@@ -170,7 +155,7 @@ module _ (body : List ℕ) (all : T (areBytes body)) where
   pub rebuilt : judged body ≡ Good → bodyOf (addressIn body) (codeIn body) (dataIn body) ≡ body
   unfolding bodyOf
   rebuilt good =
-      let enough = good-long body good in
+      let enough = good-not-short body good in
       let inside = address-inside body enough in
       let end = length body - 1 in
       let last : suc end ≡ length body = omega arith in

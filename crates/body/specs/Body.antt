@@ -8,8 +8,8 @@ use lib.Seq.{slice}
 use lib.Dec.{ltb, eqb}
 use Rattle.refusal.specs.declared.Refusal.the-variants.{BodyShort, BodyLong, CheckWrong, AddressIllegal}
 use Rattle.refusal.specs.declared.Verdict.{Verdict}
-use Rattle.refusal.specs.declared.Verdict.the-variants.{Good, Refused}
-use Rattle.refusal.specs.Numbers.{refuseIf}
+use Rattle.refusal.specs.declared.Verdict.the-variants.{Good}
+use Rattle.refusal.specs.Numbers.{refuseIf, under}
 use Rattle.check_byte.specs.Register.{received, checkOf}
 use Rattle.body.specs.declared.addresses.Address.{Address}
 use Rattle.body.specs.declared.bodies.Parts.{Parts}
@@ -65,14 +65,10 @@ dataIn body = slice (addressLength (addressIn body) + 1) (length body - 1) body
 unfoldable pub partsOf : List ℕ → Parts
 partsOf body = record { address = addressIn body; code = codeIn body; from = addressLength (addressIn body) + 1; to = length body - 1 }
 
--- a lent body taken apart, or the refusal it earns
-abbrev pub opening : Verdict → Parts → Opened
-opening Good parts = opened-as.Parts parts
-opening (Refused why) parts = opened-as.Refused why
-
--- the same; an argument says whether the check is right. A body that a line handed out had a right one, so it isn't tested again
+-- a lent body taken apart, or the refusal it earns; an argument says whether the check is right. A body that a line handed out had a right
+-- one, so it isn't tested again
 unfoldable pub openedIf : Bool → List ℕ → Opened
-openedIf right body = opening (judgedLentIf right body) (partsOf body)
+openedIf right body = under opened-as.Parts opened-as.Refused (judgedLentIf right body) (partsOf body)
 
 abbrev pub openedBody : List ℕ → Opened
 openedBody body = openedIf (checkRight body) body

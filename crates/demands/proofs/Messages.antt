@@ -13,7 +13,7 @@ use Rattle.refusal.specs.declared.Refusal.the-variants.{BodyLong, CodeUnknown, 
 use Rattle.refusal.specs.declared.Verdict.{Verdict}
 use Rattle.refusal.specs.declared.Verdict.the-variants.{Good, Refused}
 use Rattle.refusal.specs.Numbers.{numberOf, verdictNumber, refuseIf}
-use Rattle.room.specs.Writing.{judgedRoom, wrote}
+use Rattle.room.specs.Writing.{judgedRoom}
 use Rattle.body.specs.Addresses.{addressIn}
 use Rattle.body.specs.Body.{bodyOf, codeIn, dataIn}
 use Rattle.frame.specs.Stuffing.{framed, needed}
@@ -30,6 +30,7 @@ use Rattle.message.proofs.Checked.{in-order, read-so}
 use Rattle.message.proofs.RoundTrip.{body-back, again, written-lent, read-back, data-stand}
 use Rattle.demands.specs.Messages.{writtenBytes, MessageReadsBack, AcceptedWritesBack, FirstToFail, AsTheTableSays, ReadingRefuses, WritingRefuses}
 use Rattle.demands.proofs.Corollaries.{reads-back}
+use Rattle.demands.proofs.Reading.{verdict-of}
 
 -- ---- written, then read
 
@@ -122,10 +123,6 @@ reading-refuses role body = record {
 
 -- ---- writing, behind 5
 
-answered : (verdict : Verdict) (bytes room : List ℕ) → wrote verdict bytes room .answer .verdict ≡ verdict
-answered Good bytes room = refl
-answered (Refused why) bytes room = refl
-
 pub writing-refuses : WritingRefuses
 unfolding writtenMessage judgedMessageWrite
 writing-refuses role address code data′ room =
@@ -134,6 +131,6 @@ writing-refuses role address code data′ room =
     record {
       ahead = λ illegal. rw illegal;
       then = λ is-legal.
-          rw (is-legal, answered (judgedThen (judgedMessage role code data′) after) (framed body) room)
+          rw (is-legal, verdict-of (judgedThen (judgedMessage role code data′) after) (framed body) room)
           (by-the-table role code data′ after (after-length-and-room (ltb 255 (length body)) (ltb (length room) (needed body))));
     }

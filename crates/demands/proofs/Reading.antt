@@ -137,7 +137,7 @@ every-cut = over-blocks heardBy afterBytes (λ (reader : Reader). refl) heard-in
 
 -- ---- what the frame writer wrote
 
-verdict-of : (verdict : Verdict) (bytes room : List ℕ) → wrote verdict bytes room .answer .verdict ≡ verdict
+pub verdict-of : (verdict : Verdict) (bytes room : List ℕ) → wrote verdict bytes room .answer .verdict ≡ verdict
 verdict-of Good bytes room = refl
 verdict-of (refusal-as.Refused why) bytes room = refl
 

@@ -14,7 +14,7 @@ use Rattle.refusal.specs.declared.Refusal.the-variants.{AddressIllegal, BodyLon
 use Rattle.refusal.specs.declared.Verdict.{Verdict}
 use Rattle.refusal.specs.declared.Verdict.the-variants.{Good, Refused}
 use Rattle.refusal.specs.Numbers.{refuseIf}
-use Rattle.refusal.proofs.Verdicts.{refused-not-good, test-passed, rest-passed}
+use Rattle.refusal.proofs.Verdicts.{refused-not-good, test-passed, rest-passed, Tells, under-good, under-refused}
 use Rattle.room.specs.declared.Written.{Written}
 use Rattle.room.specs.Laying.{Laid}
 use Rattle.room.specs.Writing.{Leaves, refusedWrite}
@@ -24,18 +24,13 @@ use Rattle.frame.specs.declared.writing.Needed.the-variants as needed-as
 use Rattle.body.specs.Addresses.{legal}
 use Rattle.body.specs.Body.{bodyOf}
 use Rattle.frame.specs.Stuffing.{framed, countFF, needed}
-use Rattle.frame.specs.Writing.{judgedFields, neededFor, needing, judgedWrite, writtenFrame}
+use Rattle.frame.specs.Writing.{judgedFields, neededFor, judgedWrite, writtenFrame}
 use Rattle.frame.specs.Preparing.{Prepared}
 use Rattle.frame.proofs.Pieces.{read-back}
 use Rattle.frame.proofs.Stuffing.{framed-length}
 
-needing-good : (verdict : Verdict) (m n : ℕ) → needed-as.Bytes n ≡ needing verdict m → (verdict ≡ Good) × (n ≡ m)
-needing-good Good m n e = (refl, cc)
-needing-good (Refused why) m n e = (cc, cc)
-
-needing-refused : (verdict : Verdict) (m : ℕ) (why : Refusal) → needed-as.Refused why ≡ needing verdict m → verdict ≡ Refused why
-needing-refused Good m why e = cc
-needing-refused (Refused other) m why e = cc
+needed-tells : Tells needed-as.Bytes needed-as.Refused
+needed-tells = record { value = λ e. cc; refusal = λ e. cc; apart = λ e. cc }
 
 -- a chain of two tests that refuses goes on refusing, whatever is judged after it
 chain-refused : (a b : Bool) (p q : Refusal) (after : Verdict) (why : Refusal) → refuseIf a p (refuseIf b q Good) ≡ Refused why → refuseIf a p (refuseIf b q after) ≡ Refused why
@@ -72,7 +67,7 @@ module _ (address : Address) (code : ℕ) (data′ : List ℕ) where
   pub bytes-good : {n : ℕ} {empty left : List ℕ} → Prepared address code data′ empty (needed-as.Bytes n) left
       → (judgedFields address code data′ Good ≡ Good) × (n ≡ needed (bodyOf address code data′))
   unfolding neededFor
-  bytes-good {n} p = needing-good (judgedFields address code data′ Good) (needed (bodyOf address code data′)) n (p .answer)
+  bytes-good {n} p = under-good needed-tells (judgedFields address code data′ Good) _ n (sym (p .answer))
 
   pub good-length : judgedFields address code data′ Good ≡ Good → length (bodyOf address code data′) ≤ 255
   unfolding judgedFields
@@ -90,7 +85,7 @@ module _ (address : Address) (code : ℕ) (data′ : List ℕ) where
       → answered ≡ refusedWrite why → Leaves (writtenFrame address code data′ room) answered room
   unfolding neededFor writtenFrame judgedWrite judgedFields
   refused-leaves {why} {empty} {left} {room} p e =
-      let verdict = needing-refused (judgedFields address code data′ Good) (needed (bodyOf address code data′)) why (p .answer) in
+      let verdict = under-refused needed-tells (judgedFields address code data′ Good) _ why (sym (p .answer)) in
       let stays = chain-refused (not (legal address)) (ltb 255 (length (bodyOf address code data′))) _ _ (refuseIf (ltb (length room) (needed (bodyOf address code data′))) RoomShort Good) why verdict in
       rw stays (record { answer = e; room = refl })
 

@@ -6,8 +6,8 @@ use lib.ListN.{length}
 use lib.Dec.{ltb}
 use Rattle.refusal.specs.declared.Refusal.the-variants.{AddressIllegal, BodyLong}
 use Rattle.refusal.specs.declared.Verdict.{Verdict}
-use Rattle.refusal.specs.declared.Verdict.the-variants.{Good, Refused}
-use Rattle.refusal.specs.Numbers.{refuseIf}
+use Rattle.refusal.specs.declared.Verdict.the-variants.{Good}
+use Rattle.refusal.specs.Numbers.{refuseIf, under}
 use Rattle.room.specs.Writing.{Left, judgedRoom, wrote}
 use Rattle.body.specs.declared.addresses.Address.{Address}
 use Rattle.frame.specs.declared.writing.Needed.{Needed}
@@ -29,12 +29,8 @@ unfoldable pub judgedFields : Address → ℕ → List ℕ → Verdict → Verdi
 judgedFields address code data′ after = judgedAddress address (judgedLength (bodyOf address code data′) after)
 
 -- the number of the room rule; nothing is written
-abbrev pub needing : Verdict → ℕ → Needed
-needing Good bytes = needed-as.Bytes bytes
-needing (Refused why) bytes = needed-as.Refused why
-
 unfoldable pub neededFor : Address → ℕ → List ℕ → Needed
-neededFor address code data′ = needing (judgedFields address code data′ Good) (needed (bodyOf address code data′))
+neededFor address code data′ = under needed-as.Bytes needed-as.Refused (judgedFields address code data′ Good) (needed (bodyOf address code data′))
 
 -- 5, 2, 9
 unfoldable pub judgedWrite : Address → ℕ → List ℕ → List ℕ → Verdict

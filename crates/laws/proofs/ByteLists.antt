@@ -1,13 +1,13 @@
 -- Shown: an element of a list of bytes is below 256, a part of one is one, and a list of known length is its elements by their places.
 -- Why: by induction along the list.
 use mir.Facts.{and-yes, yes-and}
-use Prim.Native.Nat.{ℕ, zero, suc, _<_}
-use mathlib.Core.Path.{_≡_, refl, ap}
+use Prim.Native.Nat.{ℕ, zero, suc, _≤_, _<_}
+use mathlib.Core.Path.{_≡_, _∙_, refl, sym, ap}
 use mathlib.Core.List.{List, [], _∷_}
-use native.Mathlib.Nat.{suc-inj}
 use native.Mathlib.Omega.{arith}
 use lib.Dec.{T, ltb, ltb→lt, lit<}
 use lib.ListN.{length, take, drop, getD}
+use lib.Seq.{take-all}
 use lib.Pow.{areBytes}
 
 -- a byte of a list of bytes, wherever it stands
@@ -33,9 +33,11 @@ unfoldable pub placed : ℕ → (ℕ → ℕ) → List ℕ
 placed zero element = []
 placed (suc count) element = element 0 ∷ placed count (λ (i : ℕ). element (suc i))
 
-pub by-place : (count : ℕ) (l : List ℕ) → length l ≡ count → l ≡ placed count (λ (i : ℕ). getD l i 0)
+pub front-by-place : (count : ℕ) (l : List ℕ) → count ≤ length l → take count l ≡ placed count (λ (i : ℕ). getD l i 0)
 unfolding placed
-by-place zero [] e = refl
-by-place zero (element ∷ l) e = absurd (omega arith)
-by-place (suc count) [] e = absurd (omega arith)
-by-place (suc count) (element ∷ l) e = ap (λ (rest : List ℕ). element ∷ rest) (by-place count l (suc-inj e))
+front-by-place zero l h = refl
+front-by-place (suc count) [] h = absurd (omega arith)
+front-by-place (suc count) (element ∷ l) h = ap (λ (rest : List ℕ). element ∷ rest) (front-by-place count l (omega arith))
+
+pub by-place : (count : ℕ) (l : List ℕ) → length l ≡ count → l ≡ placed count (λ (i : ℕ). getD l i 0)
+by-place count l e = sym (take-all count l (omega arith)) ∙ front-by-place count l (omega arith)

@@ -6,12 +6,14 @@ use mathlib.Core.Bool.{true}
 use mathlib.Core.List.{List}
 use borrow.Author.Tests.{eq-eqb}
 use Rattle.refusal.specs.declared.Verdict.the-variants.{Good}
+use Rattle.refusal.proofs.Verdicts.{Tells}
 use Rattle.check_byte.specs.Register.{received}
 use Rattle.body.specs.Body.{checkRight, judged, judgedLent, codeIn, dataIn}
 use Rattle.body.specs.Addresses.{addressIn}
 use Rattle.meaning.specs.Judging.{judgedThen, judgedMessage}
 use Rattle.body.proofs.Rebuilding.{good-check}
 use Rattle.codes.specs.declared.table.Role.{Role}
+use Rattle.message.specs.declared.reading.Received.the-variants as received-as
 use Rattle.message.specs.Reading.{messageOf, judgedBody, receiving, readIf, readMessage}
 
 -- the paper's order, spelled out
@@ -22,6 +24,10 @@ in-order role body = refl
 pub read-so : (role : Role) (body : List ℕ) → readMessage role body ≡ receiving (judgedBody role body) (messageOf role (addressIn body) (codeIn body) (dataIn body))
 unfolding readMessage readIf judgedBody
 read-so role body = refl
+
+-- what was read tells the verdict
+pub received-tells : Tells received-as.Message received-as.Refused
+received-tells = record { value = λ e. cc; refusal = λ e. cc; apart = λ e. cc }
 
 pub by-its-check : (role : Role) (body : List ℕ) → readIf (checkRight body) role body ≡ readMessage role body
 unfolding readMessage

@@ -1,48 +1,36 @@
 -- Shown: what the reader may answer once a body was opened and its code and data were judged is what the paper's order answers.
 -- Why: the parts of a good body are where its code and data stand, and a refusal stays the first one met.
 use Prim.Native.Nat.{ℕ, zero, suc, _+_, _-_, _≤_}
-use mathlib.Core.Path.{_≡_, _∙_, refl, sym, ap}
+use mathlib.Core.Path.{_≡_, _∙_, sym}
 use mathlib.Core.Bool.{Bool, false}
 use mathlib.Core.List.{List, [], _∷_}
 use native.Mathlib.Nat.{sub-zero, zero-sub, suc-sub-suc}
 use native.Mathlib.Omega.{arith}
-use lib.Dec.{ltb}
 use lib.ListN.{length, take, drop}
 use lib.Seq.{slice, length-slice, take-nil, drop-nil}
 use Rattle.refusal.specs.declared.Refusal.{Refusal}
-use Rattle.refusal.specs.declared.Verdict.{Verdict}
-use Rattle.refusal.specs.declared.Verdict.the-variants.{Good, Refused}
-use Rattle.refusal.proofs.Verdicts.{test-passed, rest-passed}
+use Rattle.refusal.specs.declared.Verdict.the-variants.{Good}
+use Rattle.refusal.proofs.Verdicts.{Tells, under-good, under-refused}
 use Rattle.body.specs.declared.bodies.Parts.{Parts}
 use Rattle.body.specs.declared.bodies.Opened.the-variants as opened-as
 use Rattle.body.specs.Addresses.{addressIn, addressLength}
-use Rattle.body.specs.Body.{short, judgedLentIf, codeIn, dataIn, partsOf, opening, openedIf}
-use Rattle.body.proofs.Shortness.{address-inside}
+use Rattle.body.specs.Body.{short, judgedLentIf, codeIn, dataIn, partsOf, openedIf}
+use Rattle.body.proofs.Shortness.{address-inside, told-not-short}
 use Rattle.codes.specs.declared.table.Role.{Role}
 use Rattle.meaning.specs.declared.meaning.What.{What}
 use Rattle.meaning.specs.declared.meaning.Told.the-variants as told-as
 use Rattle.message.specs.declared.reading.Message.{Message}
 use Rattle.message.specs.declared.reading.Received.the-variants as received-as
-use Rattle.meaning.specs.Judging.{judgedMessage, telling, told}
+use Rattle.meaning.specs.Judging.{judgedMessage, told}
 use Rattle.message.specs.Reading.{messageOf, readIf}
 
 -- ---- what an answer tells of its verdict
 
-opening-good : (verdict : Verdict) (p q : Parts) → opening verdict p ≡ opened-as.Parts q → (verdict ≡ Good) × (q ≡ p)
-opening-good Good p q e = (refl, cc)
-opening-good (Refused why) p q e = (cc, cc)
+opened-tells : Tells opened-as.Parts opened-as.Refused
+opened-tells = record { value = λ e. cc; refusal = λ e. cc; apart = λ e. cc }
 
-opening-refused : (verdict : Verdict) (p : Parts) (why : Refusal) → opening verdict p ≡ opened-as.Refused why → verdict ≡ Refused why
-opening-refused Good p why e = cc
-opening-refused (Refused other) p why e = cc
-
-pub telling-good : (verdict : Verdict) (said what : What) → telling verdict said ≡ told-as.What what → (verdict ≡ Good) × (what ≡ said)
-telling-good Good said what e = (refl, cc)
-telling-good (Refused why) said what e = (cc, cc)
-
-pub telling-refused : (verdict : Verdict) (said : What) (why : Refusal) → telling verdict said ≡ told-as.Refused why → verdict ≡ Refused why
-telling-refused Good said why e = cc
-telling-refused (Refused other) said why e = cc
+pub told-tells : Tells told-as.What told-as.Refused
+told-tells = record { value = λ e. cc; refusal = λ e. cc; apart = λ e. cc }
 
 -- ---- a body that is not short
 
@@ -64,61 +52,45 @@ part (suc from) (suc to) (byte ∷ l) = rw suc-sub-suc (part from to l)
 
 pub unopened : (right : Bool) (role : Role) (body : List ℕ) (why : Refusal) → openedIf right body ≡ opened-as.Refused why → received-as.Refused why ≡ readIf right role body
 unfolding openedIf readIf
-unopened right role body why e = rw (opening-refused (judgedLentIf right body) (partsOf body) why e)
+unopened right role body why e = rw (under-refused opened-tells (judgedLentIf right body) _ why e)
 
 module _ (right : Bool) (body : List ℕ) (parts : Parts) (opened : openedIf right body ≡ opened-as.Parts parts) where
   was-good : judgedLentIf right body ≡ Good
   unfolding openedIf
-  was-good = opening-good (judgedLentIf right body) (partsOf body) parts opened .0
+  was-good = under-good opened-tells (judgedLentIf right body) _ parts opened .0
 
   parts-are : parts ≡ partsOf body
   unfolding openedIf
-  parts-are = opening-good (judgedLentIf right body) (partsOf body) parts opened .1
+  parts-are = under-good opened-tells (judgedLentIf right body) _ parts opened .1
 
   long : short body ≡ false
-  long = test-passed (short body) _ _ (rest-passed (ltb 255 (length body)) _ _ was-good)
-
-  from-is : parts .from ≡ addressLength (addressIn body) + 1
-  unfolding partsOf
-  from-is = ap (λ (p : Parts). p .from) parts-are
-
-  to-is : parts .to ≡ length body - 1
-  unfolding partsOf
-  to-is = ap (λ (p : Parts). p .to) parts-are
-
-  code-is : parts .code ≡ codeIn body
-  unfolding partsOf
-  code-is = ap (λ (p : Parts). p .code) parts-are
-
-  inside : addressLength (addressIn body) + 2 ≤ length body
-  inside = address-inside body long
-
-  address-is : parts .address ≡ addressIn body
-  unfolding partsOf
-  address-is = ap (λ (p : Parts). p .address) parts-are
+  long = told-not-short right body was-good
 
   -- its data stand in it
   pub in-order : parts .from ≤ parts .to
-  in-order = omega (arith, from-is, to-is, inside)
+  unfolding partsOf
+  in-order = rw parts-are (omega (arith, address-inside body long))
 
   pub ends-inside : parts .to ≤ length body
-  ends-inside = omega (arith, to-is, inside)
+  unfolding partsOf
+  ends-inside = rw parts-are (omega (arith, address-inside body long))
 
   part-is : take (parts .to - parts .from) (drop (parts .from) body) ≡ dataIn body
-  unfolding dataIn
-  part-is = part (parts .from) (parts .to) body ∙ rw (from-is, to-is)
+  unfolding partsOf dataIn
+  part-is = part (parts .from) (parts .to) body ∙ rw parts-are
 
   -- what is told of them is told of the body's code and data
   module _ (role : Role) where
     told-body : told role (parts .address) (parts .code) (take (parts .to - parts .from) (drop (parts .from) body))
         ≡ told role (addressIn body) (codeIn body) (dataIn body)
-    told-body = rw (part-is, code-is, address-is)
+    unfolding partsOf
+    told-body = rw (part-is, parts-are)
 
     pub untold : (why : Refusal) → told role (parts .address) (parts .code) (take (parts .to - parts .from) (drop (parts .from) body)) ≡ told-as.Refused why
         → received-as.Refused why ≡ readIf right role body
     unfolding told readIf
     untold why e =
-        let verdict = telling-refused (judgedMessage role (codeIn body) (dataIn body)) _ why (sym told-body ∙ e) in
+        let verdict = under-refused told-tells (judgedMessage role (codeIn body) (dataIn body)) _ why (sym told-body ∙ e) in
         rw (was-good, verdict)
 
     pub message-told : (what : What) → told role (parts .address) (parts .code) (take (parts .to - parts .from) (drop (parts .from) body)) ≡ told-as.What what
@@ -126,5 +98,5 @@ module _ (right : Bool) (body : List ℕ) (parts : Parts) (opened : openedIf rig
         ≡ readIf right role body
     unfolding told readIf messageOf partsOf
     message-told what e =
-        let answer = telling-good (judgedMessage role (codeIn body) (dataIn body)) _ what (sym told-body ∙ e) in
+        let answer = under-good told-tells (judgedMessage role (codeIn body) (dataIn body)) _ what (sym told-body ∙ e) in
         rw (was-good, answer .0, answer .1, data-end body long, parts-are)

@@ -6,6 +6,7 @@ use mathlib.Core.Bool.{true, false}
 use mathlib.Core.List.{List}
 use Rattle.refusal.specs.declared.Refusal.{Refusal}
 use Rattle.refusal.specs.declared.Refusal.the-variants.{AddressIllegal}
+use Rattle.refusal.proofs.Verdicts.{under-good, under-refused}
 use Rattle.room.specs.declared.Written.{Written}
 use Rattle.room.specs.Writing.{Leaves, refusedWrite}
 use Rattle.body.specs.declared.addresses.Address.{Address}
@@ -16,7 +17,7 @@ use Rattle.meaning.specs.declared.meaning.What.{What}
 use Rattle.meaning.specs.declared.meaning.Told.the-variants as told-as
 use Rattle.meaning.specs.Judging.{judgedMessage, told}
 use Rattle.message.specs.Writing.{judgedMessageWrite, writtenMessage}
-use Rattle.message.proofs.Opening.{telling-good, telling-refused}
+use Rattle.message.proofs.Opening.{told-tells}
 
 module _ (role : Role) (address : Address) (code : ℕ) (data′ room : List ℕ) where
   -- 5
@@ -30,11 +31,11 @@ module _ (role : Role) (address : Address) (code : ℕ) (data′ room : List ℕ
       → answered ≡ refusedWrite why → Leaves (writtenMessage role address code data′ room) answered room
   unfolding told writtenMessage judgedMessageWrite
   untold-leaves is-legal why refused e =
-      rw (is-legal, telling-refused (judgedMessage role code data′) _ why refused) (record { answer = e; room = refl })
+      rw (is-legal, under-refused told-tells (judgedMessage role code data′) _ why refused) (record { answer = e; room = refl })
 
   -- 2, 9, and the frame
   pub told-leaves : {answered : Written} {left : List ℕ} → legal address ≡ true → (what : What) → told role address code data′ ≡ told-as.What what
       → Leaves (writtenFrame address code data′ room) answered left → Leaves (writtenMessage role address code data′ room) answered left
   unfolding told writtenMessage judgedMessageWrite writtenFrame judgedWrite judgedFields
   told-leaves is-legal what said leaves =
-      rw (is-legal, telling-good (judgedMessage role code data′) _ what said .0) (rw is-legal at leaves)
+      rw (is-legal, under-good told-tells (judgedMessage role code data′) _ what said .0) (rw is-legal at leaves)

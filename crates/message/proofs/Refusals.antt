@@ -11,6 +11,7 @@ use Rattle.refusal.specs.declared.Refusal.the-variants.{BodyShort, BodyLong, Ch
 use Rattle.refusal.specs.declared.Verdict.{Verdict}
 use Rattle.refusal.specs.declared.Verdict.the-variants.{Good, Refused}
 use Rattle.refusal.specs.Numbers.{numberOf, lineStatus, refuseIf}
+use Rattle.refusal.proofs.Verdicts.{under-refused}
 use Rattle.check_byte.specs.Register.{received}
 use Rattle.body.specs.Addresses.{legal, addressIn}
 use Rattle.body.specs.Body.{longest, short, judged, judgedLent, codeIn, dataIn}
@@ -19,14 +20,9 @@ use Rattle.codes.specs.Table.{rowOf, inTable}
 use Rattle.codes.specs.Lengths.{lengthOf, lengthRight}
 use Rattle.meaning.specs.Fields.{fieldsRight}
 use Rattle.meaning.specs.Judging.{judgedCode, judgedThen, judgedData, judgedMessage}
-use Rattle.message.specs.declared.reading.Message.{Message}
 use Rattle.message.specs.declared.reading.Received.the-variants as received-as
-use Rattle.message.specs.Reading.{receiving, judgedBody, readMessage}
-use Rattle.message.proofs.Checked.{in-order, read-so}
-
-receiving-refused : (verdict : Verdict) (message : Message) (why : Refusal) → receiving verdict message ≡ received-as.Refused why → verdict ≡ Refused why
-receiving-refused Good message why e = cc
-receiving-refused (Refused other) message why e = cc
+use Rattle.message.specs.Reading.{judgedBody, readMessage}
+use Rattle.message.proofs.Checked.{in-order, read-so, received-tells}
 
 module _ (holds : Refusal → Type 0) where
   -- what a verdict refuses with
@@ -68,7 +64,7 @@ module _ (holds : Refusal → Type 0) where
 
       pub message-refuses : (role : Role) (body : List ℕ) (why : Refusal) → readMessage role body ≡ received-as.Refused why → holds why
       unfolding OfRefusal
-      message-refuses role body why e = subst OfRefusal (receiving-refused (judgedBody role body) _ why (sym (read-so role body) ∙ e)) (of-body role body)
+      message-refuses role body why e = subst OfRefusal (under-refused received-tells (judgedBody role body) _ why (sym (read-so role body) ∙ e)) (of-body role body)
 
 -- so each of them is a refusal that a line can meet
 pub message-met : (role : Role) (body : List ℕ) (why : Refusal) → readMessage role body ≡ received-as.Refused why → lineStatus (numberOf why) ≡ true

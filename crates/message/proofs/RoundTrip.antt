@@ -11,7 +11,7 @@ use lib.Seq.{slice}
 use lib.Pow.{areBytes}
 use Rattle.refusal.specs.declared.Verdict.{Verdict}
 use Rattle.refusal.specs.declared.Verdict.the-variants.{Good, Refused}
-use Rattle.refusal.proofs.Verdicts.{refused-not-good, test-passed, rest-passed}
+use Rattle.refusal.proofs.Verdicts.{refused-not-good, test-passed, rest-passed, under-good}
 use Rattle.body.specs.declared.addresses.Address.{Address}
 use Rattle.body.specs.Addresses.{legal, addressIn}
 use Rattle.body.specs.Body.{bodyOf, judged, judgedLent, codeIn, dataIn}
@@ -22,9 +22,9 @@ use Rattle.codes.specs.declared.table.Role.{Role}
 use Rattle.message.specs.declared.reading.Message.{Message}
 use Rattle.message.specs.declared.reading.Received.the-variants as received-as
 use Rattle.meaning.specs.Judging.{judgedThen, judgedMessage}
-use Rattle.message.specs.Reading.{messageOf, judgedBody, receiving, readIf, readMessage}
+use Rattle.message.specs.Reading.{messageOf, judgedBody, readIf, readMessage}
 use Rattle.message.specs.Writing.{judgedMessageWrite}
-use Rattle.message.proofs.Checked.{in-order, read-so}
+use Rattle.message.proofs.Checked.{in-order, read-so, received-tells}
 use Rattle.message.proofs.Opening.{data-end}
 
 -- of two judges one after the other that say Good, each does
@@ -35,10 +35,6 @@ first-good (Refused why) second e = refused-not-good e
 pub second-good : (first second : Verdict) → judgedThen first second ≡ Good → second ≡ Good
 second-good Good second e = e
 second-good (Refused why) second e = refused-not-good e
-
-pub receiving-good : (verdict : Verdict) (m n : Message) → receiving verdict m ≡ received-as.Message n → (verdict ≡ Good) × (n ≡ m)
-receiving-good Good m n e = (refl, cc)
-receiving-good (Refused why) m n e = (cc, cc)
 
 -- what the writer judges good
 pub may-be-written : (role : Role) (address : Address) (code : ℕ) (data′ room : List ℕ) → legal address ≡ true → judgedMessage role code data′ ≡ Good
@@ -51,11 +47,11 @@ may-be-written role address code data′ room is-legal good fits enough = rw (is
 module _ (role : Role) (body : List ℕ) (message : Message) (received : readMessage role body ≡ received-as.Message message) where
   both-good : judgedBody role body ≡ Good
   unfolding readMessage readIf judgedBody
-  both-good = receiving-good (judgedBody role body) _ message received .0
+  both-good = under-good received-tells (judgedBody role body) _ message received .0
 
   pub message-is : message ≡ messageOf role (addressIn body) (codeIn body) (dataIn body)
   unfolding readMessage readIf judgedBody
-  message-is = receiving-good (judgedBody role body) _ message received .1
+  message-is = under-good received-tells (judgedBody role body) _ message received .1
 
   pub read-lent : judgedLent body ≡ Good
   unfolding judgedBody judgedLent

@@ -1,11 +1,11 @@
--- Shown: a chain of tests says Good exactly where none of its tests holds, so what passed has every fact that the tests ask.
--- Why: a test that holds refuses, and a refusal is not Good.
+-- Shown: a chain of tests says Good exactly where none of them holds, so what passed has every fact that they ask; an answer tells its verdict.
+-- Why: a test that holds refuses, a refusal is not Good, and an answer of a value is none of a refusal.
 use mathlib.Core.Path.{_≡_, refl, sym, ap}
 use mathlib.Core.Bool.{Bool, true, false, true≢false}
 use Rattle.refusal.specs.declared.Refusal.{Refusal}
 use Rattle.refusal.specs.declared.Verdict.{Verdict}
 use Rattle.refusal.specs.declared.Verdict.the-variants.{Good, Refused}
-use Rattle.refusal.specs.Numbers.{refuseIf}
+use Rattle.refusal.specs.Numbers.{refuseIf, under}
 
 isGood : Verdict → Bool
 isGood Good = true
@@ -23,3 +23,19 @@ test-passed false why after e = refl
 pub rest-passed : (test : Bool) (why : Refusal) (after : Verdict) → refuseIf test why after ≡ Good → after ≡ Good
 rest-passed true why after e = refused-not-good e
 rest-passed false why after e = e
+
+-- two kinds of answer, of a value and of a refusal: each tells what it holds, and none is of both kinds
+pub record Tells {A B : Type 0} (good : A → B) (refused : Refusal → B) : Type 0 where
+  pub value : {a b : A} → good a ≡ good b → a ≡ b
+  pub refusal : {p q : Refusal} → refused p ≡ refused q → p ≡ q
+  pub apart : {a : A} {why : Refusal} → good a ≡ refused why → Refused why ≡ Good
+
+-- such an answer under a verdict tells the verdict, and the value
+module _ {A B : Type 0} {good : A → B} {refused : Refusal → B} (tells : Tells good refused) where
+  pub under-good : (verdict : Verdict) (value other : A) → under good refused verdict value ≡ good other → (verdict ≡ Good) × (other ≡ value)
+  under-good Good value other e = (refl, tells .value (sym e))
+  under-good (Refused why) value other e = refused-not-good (tells .apart (sym e))
+
+  pub under-refused : (verdict : Verdict) (value : A) (why : Refusal) → under good refused verdict value ≡ refused why → verdict ≡ Refused why
+  under-refused Good value why e = refused-not-good (tells .apart e)
+  under-refused (Refused other) value why e = ap Refused (tells .refusal e)
