@@ -99,7 +99,7 @@ def is_an_end(known: Definition) -> bool:
         return True
     if known.name.endswith('-spec') or known.name in named_in_promises():
         return True
-    if known.public and known.file.stem in files_in_promises(crate):
+    if known.file.stem in files_in_promises(crate):
         return True
     return crate == 'demands' and known.claims in statements()
 
