@@ -9,6 +9,7 @@ use refusal::Verdict;
 use room::Written;
 use room::lay;
 use room::lay_byte;
+use room::lay_low;
 use room::refused_write;
 ghost use mathlib.Core.Path.{_≡_};
 ghost use Prim.Native.Nat.{_+_, _≤_};
@@ -29,17 +30,14 @@ pub enum Needed {
 
 // The address as it stands on the wire, at the front of a room.
 fn put_address(address: Address, room: &mut [u8]) -> usize
+    requires { ⌜ length (addressBytes address) ≤ length (now room) ⌝ }
     ensures { λ r. ⌜ Laid 0 (addressBytes address) (now (room .entry)) r (now (room .exit)) ⌝ }
 {
     match address {
         Address::Short(byte) => lay_byte(byte, room, 0),
         Address::Serial(serial) => {
-            let above = serial / 256;
-            let low = (serial % 256) as u8;
-            let middle = (above % 256) as u8;
-            let high = (above / 256 % 256) as u8;
-            let bytes = [0, low, middle, high];
-            lay(&bytes, room, 0)
+            let behind_zero = lay_byte(0, room, 0);
+            lay_low(serial as u64, 3, room, behind_zero)
         }
     }
 }

@@ -6,6 +6,7 @@ use mathlib.Core.List.{List, [], _∷_}
 use lib.ListN.{take}
 use Rattle.refusal.specs.declared.Refusal.{Refusal}
 use Rattle.laws.proofs.OneAnswer.{one}
+use Rattle.low_first.specs.LowFirst.{lowBytes}
 use Rattle.room.specs.declared.Written.{Written}
 use Rattle.room.specs.Laying.{Laid}
 use Rattle.room.specs.Writing.{Left, Leaves, refusedWrite}
@@ -18,6 +19,9 @@ lay-one p q = (one (p .place) (q .place), one (p .room) (q .room))
 
 pub lay-byte-one : {at byte a b : ℕ} {room l m : List ℕ} → Laid at (byte ∷ []) room a l → Laid at (byte ∷ []) room b m → (a ≡ b) × (l ≡ m)
 lay-byte-one = lay-one
+
+pub lay-low-one : (number count : ℕ) {at a b : ℕ} {room l m : List ℕ} → Laid at (lowBytes count number) room a l → Laid at (lowBytes count number) room b m → (a ≡ b) × (l ≡ m)
+lay-low-one number count = lay-one
 
 -- a write's promise fixes the answer and every byte of the lent room
 pub leaves-one : {write : Left} {a b : Written} {l m : List ℕ} → Leaves write a l → Leaves write b m → (a ≡ b) × (l ≡ m)

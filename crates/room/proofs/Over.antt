@@ -1,6 +1,6 @@
 -- Shown: what pieces laid one behind the other leave in a room, and its length.
 -- Why: a piece laid behind what is there already makes one longer piece over the same room.
-use Prim.Native.Nat.{ℕ, _+_, _-_, _≤_, _<_}
+use Prim.Native.Nat.{ℕ, suc, _+_, _-_, _/_, _%_, _^_, _≤_, _<_}
 use mathlib.Core.Path.{_≡_, _∙_, sym, ap}
 use mathlib.Core.List.{List, [], _∷_, _++_, append-nil, append-assoc}
 use native.Mathlib.Omega.{arith}
@@ -9,6 +9,8 @@ use lib.ListN.{length, take, drop, set, length-append, length-drop, drop-of-leng
 use lib.Seq.{take-all, take-length, length-take-le, set-split, take-at, drop-append-add, drop-drop}
 use native.Mathlib.Numerals.{add-one}
 use native.Mathlib.Nat.{add-zero, zero-add, add-assoc}
+use Rattle.low_first.specs.LowFirst.{lowBytes}
+use Rattle.low_first.proofs.Digits.{low-length, low-next}
 use Rattle.room.specs.Laying.{over, laid, behind, Laid}
 
 pub over-length : (bytes room : List ℕ) → length bytes ≤ length room → length (over bytes room) ≡ length room
@@ -106,6 +108,13 @@ laid-then {at} {next} {last} {first} {second} {room} {middle} {left} h l m =
           ∙ ap (λ (front : List ℕ). over front room) (append-assoc (take at room) first second)
           ∙ sym (laid-fits at (first ++ second) room both);
     }
+
+-- a number's bytes, the next behind those before it
+pub low-laid : {at next last : ℕ} {room middle left : List ℕ} (count number : ℕ) → at + suc count ≤ length room
+    → Laid at (lowBytes count number) room next middle → Laid next (number / 256 ^ count % 256 ∷ []) middle last left
+    → Laid at (lowBytes (suc count) number) room last left
+low-laid count number h l m = let size = low-length count number in
+    rw (low-next count number) (laid-then (omega arith) l m)
 
 -- a piece at the front of a room
 pub laid-front : {next : ℕ} {bytes room left : List ℕ} → length bytes ≤ length room → Laid 0 bytes room next left → (next ≡ length bytes) × (left ≡ over bytes room)

@@ -5,6 +5,7 @@ use refusal::Verdict;
 ghost use mathlib.Core.Path.{_≡_};
 ghost use mathlib.Core.List.{[], _∷_};
 ghost use lib.ListN.{take};
+ghost use Rattle.low_first.specs.LowFirst.{lowBytes};
 ghost use Rattle.room.specs.Laying.{Laid};
 ghost use Rattle.room.specs.Writing.{refusedWrite};
 
@@ -48,6 +49,28 @@ pub fn lay(source: &[u8], room: &mut [u8], at: usize) -> usize
     }
     let count = bytes::copy(source, &mut room[at..]);
     at + count
+}
+
+// A number's bytes, low byte first, as many as are asked, into a room from a place on. It answers the place behind them;
+// where they would pass the room's end nothing is laid.
+pub fn lay_low(number: u64, count: usize, room: &mut [u8], at: usize) -> usize
+    ensures { λ r. ⌜ Laid at (lowBytes count number) (now (room .entry)) r (now (room .exit)) ⌝ }
+{
+    if room.len() < at {
+        return at;
+    }
+    if room.len() - at < count {
+        return at;
+    }
+    let mut left = number;
+    let mut next = at;
+    let mut i = 0;
+    while i < count {
+        next = lay_byte((left % 256) as u8, room, next);
+        left /= 256;
+        i += 1;
+    }
+    next
 }
 
 // The first bytes that were lent, or all of them if fewer are lent.

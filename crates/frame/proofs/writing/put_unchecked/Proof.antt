@@ -1,5 +1,8 @@
 -- `frame::put_unchecked` meets its contract: address, code and data lie one behind the other.
 -- Why: pieces laid one behind the other are one piece.
+use native.Mathlib.Omega.{arith}
+use lib.ListN.{length-append}
+use Rattle.body.specs.Body.{unchecked}
 use Rattle.frame.proofs.Pieces.{unchecked-laid}
 use borrow.Author.Needs.{needs}
 use Rattle.frame.proofs.writing.put_unchecked.Statement.{statement}
@@ -11,7 +14,8 @@ use Rattle.room.proofs.lay.Reads as lay-reads
 use Rattle.room.proofs.lay_byte.Reads as lay-byte-reads
 
 put-address-requires : tie.Need-put-address-requires
-put-address-requires c κs = search needs
+unfolding unchecked
+put-address-requires c κs = omega (arith, simp length-append at (c .before .before .before .pre))
 
 lay-byte-requires : tie.Need-lay-byte-requires
 lay-byte-requires c κs = search needs
