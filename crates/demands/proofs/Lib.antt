@@ -7,6 +7,7 @@ pub mod Cuts
 pub mod Demand3
 pub mod Entries
 pub mod Examples
+pub mod Kept
 pub mod Logs
 pub mod Loops
 pub mod Messages

@@ -15,12 +15,16 @@ use Rattle.weighing_log.specs.declared.hearing.Noted.{Noted}
 use Rattle.weighing_log.specs.declared.hearing.Noted.the-variants as noted-as
 use Rattle.weighing_log.specs.Hearing.{recordOf, notedHeard}
 use Rattle.weighing_log.proofs.Heard.{refusal-made, said-made, made-good}
+use Rattle.records.proofs.WholeLog.{stepping, steps-one}
 use Rattle.records.proofs.Joining.{Writable, none, more, log-back, log-again}
 use Rattle.demands.specs.Weighings.{noteThen, recordsFrom}
-use Rattle.demands.specs.Logs.{WholeLogAgain, LineLogWhole}
+use Rattle.demands.specs.Logs.{WholeLogAgain, EveryLogStepped, LineLogWhole}
 
 pub whole-log-again : WholeLogAgain
 whole-log-again = log-again
+
+pub every-log-stepped : EveryLogStepped
+every-log-stepped log = record { comes = stepping log; only = λ other steps. steps-one log steps (stepping log) }
 
 -- what is noted is good, and of its time
 time-kept : (time : ℕ) (received : Received) (item : Record) → recordOf time received ≡ noted-as.Record item → item .time ≡ time

@@ -39,8 +39,10 @@ use Rattle.weighing_log.proofs.Heard.{refusal-kind}
 use Rattle.weighing_log.proofs.Weighings.{heard as weighing-heard, address-is, said-code, spelled, packed-back}
 use Rattle.entries.specs.declared.entries.Entry.the-variants.{Weight}
 use Rattle.entries.specs.Entries.{messageEntry, entryOf, entryHeard}
+use Rattle.entries.proofs.Handed.{handed-out}
+use Rattle.listing.proofs.Handed.{lists-the-same}
 use Rattle.demands.proofs.Entries.{Lists, a-weight, by-code, lists}
-use Rattle.demands.specs.Weighings.{ReplyHeard, Among, WeighingHeard, NotedAsHeard, noteThen, recordsFrom, LogAsHeard, ListedHeard, ListedAsHeard, ListingAsHeard}
+use Rattle.demands.specs.Weighings.{ReplyHeard, Among, WeighingHeard, NotedAsHeard, noteThen, recordsFrom, LogAsHeard, ListedHeard, ListedAsHeard, ListingAsHeard, CheckedOnce}
 
 -- ---- what a line hands out
 
@@ -194,3 +196,6 @@ in-listing load address reading (heard ∷ later) all (List·Memᴰ·tail among)
 pub listing-as-heard : ListingAsHeard
 listing-as-heard reader all bytes small load address reading =
     in-listing load address reading (events (view reader) bytes) (all-whole reader all bytes small)
+
+pub checked-once : CheckedOnce
+checked-once listener bytes = record { entries = handed-out listener bytes; lines = lists-the-same listener bytes }

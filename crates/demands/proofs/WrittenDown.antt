@@ -32,6 +32,7 @@ use Rattle.records.specs.Layout.{bytesOfRecord}
 use Rattle.records.specs.Writing.{judgedRecord, writtenRecord}
 use Rattle.weighing_log.specs.declared.hearing.Noted.the-variants as noted-as
 use Rattle.weighing_log.specs.Hearing.{recordOf, notedHeard}
+use Rattle.weighing_log.proofs.Heard.{met-noted as met-made}
 use Rattle.weighing_log.proofs.Others.{Saying, a-weight, no-weight, saying}
 use Rattle.weighing_log.proofs.Weighings.{address-legal, row-is}
 use Rattle.entries.specs.declared.entries.Entry.{Entry}
@@ -41,7 +42,7 @@ use Rattle.listing.specs.Lines.{lineOf}
 use Rattle.listing.specs.Writing.{writtenLine}
 use Rattle.demands.proofs.Entries.{Lists, a-weight as lists-weight, by-code, lists}
 use Rattle.demands.proofs.Logs.{noted-good}
-use Rattle.demands.proofs.Noted.{Met, Told, is-noted, line-told}
+use Rattle.demands.proofs.Noted.{Met, Told, line-told}
 use Rattle.message.proofs.Refusals.{message-refuses}
 use Rattle.demands.specs.WrittenDown.{Sound, AlwaysWritten}
 
@@ -87,7 +88,7 @@ body-sound body (received-as.Message message) was = message-sound Reply body mes
 body-sound body (received-as.Refused why) was = message-refuses Met refl refl refl refl refl refl refl Reply body why was
 
 met-noted : (time : ℕ) (met why : Refusal) → Met met → recordOf time (received-as.Refused met) ≡ noted-as.Refused why → ⊥
-met-noted time met why is-met e = let made = is-noted time met is-met in let clash : _≡_ {A = ℕ} 0 1 = cc in omega arith
+met-noted time met why is-met e = let made = met-made time met is-met in let clash : _≡_ {A = ℕ} 0 1 = cc in omega arith
 
 body-noted : (role : Role) (body : List ℕ) (received : Received) → readMessage role body ≡ received → (time : ℕ) (why : Refusal)
     → recordOf time received ≡ noted-as.Refused why → ⊥

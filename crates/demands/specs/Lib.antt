@@ -1,5 +1,6 @@
 pub mod Counts
 pub mod Examples
+pub mod Kept
 pub mod Logs
 pub mod Loops
 pub mod Messages

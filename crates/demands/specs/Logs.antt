@@ -11,13 +11,21 @@ use Rattle.codes.specs.declared.table.Role.{Role}
 use Rattle.codes.specs.declared.table.Role.the-variants.{Reply}
 use Rattle.codes.specs.declared.table.Load.the-variants.{Net, Gross}
 use Rattle.weighing_log.specs.Hearing.{weighing, metOnLine}
-use Rattle.records.specs.Stepping.{wholeLog, bytesOfLog}
+use Rattle.records.specs.Stepping.{Log, wholeLog, bytesOfLog, Steps}
 use Rattle.demands.specs.Examples.{Example, examples}
 use Rattle.demands.specs.Weighings.{recordsHeard}
 
 -- a whole log is the bytes of its records, one behind the other, and nothing else
 abbrev pub WholeLogAgain : Type 0
 WholeLogAgain = (log : List ℕ) → T (areBytes log) → wholeLog log .ending ≡ Good → bytesOfLog (wholeLog log .records) ≡ log
+
+-- who steps from its front until there is no further step meets all its records, and nothing else; of any bytes, and of a log that breaks too
+pub record SteppedWhole (log : List ℕ) : Type 0 where
+  pub comes : Steps log 0 (wholeLog log)
+  pub only : (other : Log) → Steps log 0 other → other ≡ wholeLog log
+
+abbrev pub EveryLogStepped : Type 0
+EveryLogStepped = (log : List ℕ) → SteppedWhole log
 
 -- the log that a line makes is whole, and its records are those that were noted; times are of 64 bits
 abbrev pub LineLogWhole : Type 0

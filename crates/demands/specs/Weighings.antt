@@ -3,13 +3,14 @@
 -- every state handed in. The array and the wire hold bytes.
 use Prim.Native.Nat.{ℕ, _+_}
 use mathlib.Core.Path.{_≡_}
+use mathlib.Core.Bool.{true}
 use mathlib.Core.List.{List, [], _∷_, map, List·Memᴰ}
 use lib.Dec.{T}
 use lib.Pow.{areBytes}
 use Rattle.body.specs.declared.addresses.Address.{Address}
 use Rattle.body.specs.Body.{bodyOf}
 use Rattle.line.specs.declared.reading.Reader.{Reader}
-use Rattle.line.specs.Listener.{Heard, frame, hear, events}
+use Rattle.line.specs.Listener.{Heard, Listener, frame, hear, events}
 use Rattle.line.specs.Readers.{view}
 use Rattle.weight.specs.declared.Reading.{Reading}
 use Rattle.weight.specs.declared.Packed.the-variants as packed-as
@@ -24,7 +25,8 @@ use Rattle.weighing_log.specs.declared.hearing.Noted.the-variants as noted-as
 use Rattle.weighing_log.specs.Hearing.{notedHeard}
 use Rattle.weighing_log.specs.Heard.{codeOf}
 use Rattle.entries.specs.declared.entries.Entry.the-variants.{Weight}
-use Rattle.entries.specs.Entries.{entryHeard}
+use Rattle.entries.specs.Entries.{entryHeard, entryIf}
+use Rattle.listing.specs.Whole.{listed, listing}
 
 -- "C2 net, C3 gross", "W0 W1 W2 CON": a frame was heard whose body is an address, the code, exactly these bytes, and their check
 pub record ReplyHeard (heard : Heard) (load : Load) (address : Address) (four : List ℕ) : Type 0 where
@@ -98,3 +100,11 @@ ListingAsHeard =
     (reader : Reader) → T (areBytes (reader .body)) → (bytes : List ℕ) → T (areBytes bytes) → (load : Load) (address : Address) (reading : Reading)
     → List·Memᴰ (Weight load address reading) (map entryHeard (events (view reader) bytes))
     → Among (events (view reader) bytes) (ListedHeard load address reading)
+
+-- the program makes each body's check once, at its end, and lists without making it again: its entries, and their lines, are the paper's
+pub record ListsTheSame (heard : List Heard) : Type 0 where
+  pub entries : map (entryIf true) heard ≡ map entryHeard heard
+  pub lines : listed (map (entryIf true) heard) ≡ listing heard
+
+abbrev pub CheckedOnce : Type 0
+CheckedOnce = (listener : Listener) (bytes : List ℕ) → ListsTheSame (events listener bytes)

@@ -1,0 +1,97 @@
+-- Shown: each reply C2 or C3 that was heard stands in the log as its weighing and in the listing as its weight.
+-- Why: a body put together from such parts is read as the message of its parts, and a reading packs to the bytes that it was read from.
+use Prim.Native.Nat.{ℕ, _+_, _≤_}
+use mathlib.Core.Path.{_≡_, _∙_, refl}
+use mathlib.Core.List.{List, [], _∷_}
+use native.Mathlib.Omega.{arith}
+use lib.ListN.{length, replicate, length-replicate}
+use Rattle.refusal.specs.declared.Verdict.the-variants.{Good}
+use Rattle.body.specs.declared.addresses.Address.{Address}
+use Rattle.body.specs.declared.addresses.Address.the-variants.{Short, Serial}
+use Rattle.body.specs.Addresses.{addressLength}
+use Rattle.body.specs.Body.{bodyOf}
+use Rattle.body.proofs.Anatomy.{body-length}
+use Rattle.frame.specs.Stuffing.{needed}
+use Rattle.weight.specs.declared.Reading.{Reading}
+use Rattle.weight.specs.declared.Read.the-variants as read-as
+use Rattle.weight.specs.declared.Packed.the-variants as packed-as
+use Rattle.weight.specs.Digits.{digitsOf}
+use Rattle.weight.specs.Status.{readingOf}
+use Rattle.weight.specs.Bytes.{readOf, packedOf}
+use Rattle.weight.proofs.RoundTrip.{bytes-back}
+use Rattle.codes.specs.declared.table.Role.the-variants.{Reply}
+use Rattle.codes.specs.declared.table.Load.{Load}
+use Rattle.codes.specs.declared.table.Load.the-variants.{Net, Gross}
+use Rattle.codes.specs.declared.table.Row.the-variants.{Weight}
+use Rattle.codes.specs.Table.{lineIn, lineOf, rowOf}
+use Rattle.meaning.specs.declared.meaning.What.the-variants as says
+use Rattle.meaning.specs.Fields.{readIn}
+use Rattle.meaning.specs.Judging.{judgedCode, judgedData, judgedMessage}
+use Rattle.message.specs.declared.reading.Received.the-variants as received-as
+use Rattle.message.specs.Reading.{messageOf, readMessage}
+use Rattle.message.specs.Writing.{judgedMessageWrite}
+use Rattle.message.proofs.RoundTrip.{may-be-written, read-back}
+use Rattle.weighing_log.specs.Hearing.{recordOf}
+use Rattle.weighing_log.specs.Heard.{codeOf}
+use Rattle.entries.specs.Entries.{entryHeard}
+use Rattle.demands.specs.Kept.{WeightReply, WeightsKept}
+
+row : (load : Load) → rowOf Reply (codeOf load) ≡ Weight load
+unfolding rowOf lineOf lineIn
+row Net = refl
+row Gross = refl
+
+at-most-four : (address : Address) → addressLength address ≤ 4
+unfolding addressLength
+at-most-four (Short byte) = omega arith
+at-most-four (Serial serial) = omega arith
+
+module _ (address : Address) (load : Load) (w0 w1 w2 con : ℕ) (reply : WeightReply address w0 w1 w2 con) where
+  four : List ℕ
+  four = w0 ∷ w1 ∷ w2 ∷ con ∷ []
+
+  body : List ℕ
+  body = bodyOf address (codeOf load) four
+
+  reading : Reading
+  reading = readingOf (digitsOf w0 w1 w2) con
+
+  read : readOf w0 w1 w2 con ≡ read-as.Good reading
+  unfolding readOf reading
+  read = rw (reply .digits)
+
+  packs : packedOf reading ≡ packed-as.Bytes w0 w1 w2 con
+  packs = bytes-back w0 w1 w2 con (reply .status) reading read
+
+  right : judgedMessage Reply (codeOf load) four ≡ Good
+  unfolding judgedMessage judgedCode judgedData readIn four
+  right = rw (row load, read)
+
+  -- a room that is long enough for its frame
+  room : List ℕ
+  room = replicate (needed body) 0
+
+  writable : judgedMessageWrite Reply address (codeOf load) four room ≡ Good
+  unfolding body four room
+  writable =
+      may-be-written Reply address (codeOf load) four room (reply .from) right
+      (omega (arith, body-length address (codeOf load) four, at-most-four address)) (omega (arith, length-replicate {A = ℕ} (needed body) 0))
+
+  is-read : readMessage Reply body ≡ received-as.Message (messageOf Reply address (codeOf load) four)
+  unfolding body
+  is-read = read-back Reply address (codeOf load) four room writable
+
+  said : messageOf Reply address (codeOf load) four .what ≡ says.Weight load reading
+  unfolding messageOf readIn four
+  said = rw (row load, read)
+
+pub weights-kept : WeightsKept
+unfolding recordOf entryHeard messageOf body four
+weights-kept wire kept address load w0 w1 w2 con reply =
+    let is = is-read address load w0 w1 w2 con reply in
+    let says-it = said address load w0 w1 w2 con reply in
+    let packed = packs address load w0 w1 w2 con reply in
+    record {
+      noted = λ (time : ℕ). rw (is, says-it, packed, reply .from);
+      listed = record { reading = reading address load w0 w1 w2 con reply; packed = packed; listed = rw (is, says-it) };
+    }

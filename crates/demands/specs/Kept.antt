@@ -1,0 +1,45 @@
+-- 01, "Log records": "Kind 1 is a gross reply, 2 a net reply". Nothing that was heard is lost: each reply C2 or C3 stands in the log as its
+-- weighing and in the listing as its weight. (That no other does: Weighings. That refusals do: Noted.)
+use Prim.Native.Nat.{ℕ, _<_}
+use mathlib.Core.Path.{_≡_}
+use mathlib.Core.Bool.{true}
+use mathlib.Core.List.{List, [], _∷_}
+use Rattle.body.specs.declared.addresses.Address.{Address}
+use Rattle.body.specs.Addresses.{legal}
+use Rattle.body.specs.Body.{bodyOf}
+use Rattle.line.specs.Listener.{Heard, frame}
+use Rattle.weight.specs.declared.Reading.{Reading}
+use Rattle.weight.specs.declared.Packed.the-variants as packed-as
+use Rattle.weight.specs.Digits.{allDecimal}
+use Rattle.weight.specs.Bytes.{packedOf}
+use Rattle.codes.specs.declared.table.Role.the-variants.{Reply}
+use Rattle.codes.specs.declared.table.Load.{Load}
+use Rattle.weighing_log.specs.declared.hearing.Noted.the-variants as noted-as
+use Rattle.weighing_log.specs.Hearing.{weighing, notedHeard}
+use Rattle.weighing_log.specs.Heard.{codeOf}
+use Rattle.entries.specs.declared.entries.Entry.the-variants as entry-as
+use Rattle.entries.specs.Entries.{entryHeard}
+
+-- "C2 net, C3 gross", "W0 W1 W2 CON": a frame with a legal address, "good decimal" weight bytes, and a status byte, which is any byte
+pub record WeightReply (address : Address) (w0 w1 w2 con : ℕ) : Type 0 where
+  pub from : legal address ≡ true
+  pub digits : allDecimal w0 w1 w2 ≡ true
+  pub status : con < 256
+
+abbrev pub replyFrame : ℕ → ℕ → Address → Load → (w0 w1 w2 con : ℕ) → Heard
+replyFrame wire kept address load w0 w1 w2 con = frame wire kept (bodyOf address (codeOf load) (w0 ∷ w1 ∷ w2 ∷ con ∷ []))
+
+-- in the listing it is a weight from its address, of the reading that packs to its four bytes
+pub record ListedWeight (heard : Heard) (address : Address) (load : Load) (w0 w1 w2 con : ℕ) : Type 0 where
+  pub reading : Reading
+  pub packed : packedOf reading ≡ packed-as.Bytes w0 w1 w2 con
+  pub listed : entryHeard heard ≡ entry-as.Weight load address reading
+
+pub record KeptWeight (heard : Heard) (address : Address) (load : Load) (w0 w1 w2 con : ℕ) : Type 0 where
+  pub noted : (time : ℕ) → notedHeard time Reply heard ≡ noted-as.Record (weighing time address load w0 w1 w2 con)
+  pub listed : ListedWeight heard address load w0 w1 w2 con
+
+abbrev pub WeightsKept : Type 0
+WeightsKept =
+    (wire kept : ℕ) (address : Address) (load : Load) (w0 w1 w2 con : ℕ) → WeightReply address w0 w1 w2 con
+    → KeptWeight (replyFrame wire kept address load w0 w1 w2 con) address load w0 w1 w2 con
