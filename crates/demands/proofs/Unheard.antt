@@ -1,23 +1,28 @@
--- Shown: nothing that is no weighing ever reads as a weight: not a record of kind 3, not what crosses in place of a record or a message.
--- Why: a record's kind is asked ahead of its bytes, and what crosses without a weight has bytes of which no half is a digit.
-use Prim.Native.Nat.{ℕ, _<_}
+-- Shown: nothing that is no weighing ever reads as a weight: not a record of kind 3, not what crosses in place of a record or a message; and what
+-- is one does, with its own four bytes. Why: a record's kind is asked ahead of its bytes, and what crosses without a weight has no digits.
+use Prim.Native.Nat.{ℕ, _/_, _<_}
 use mathlib.Core.Path.{_≡_, _∙_, refl, sym}
 use mathlib.Core.Bool.{Bool, true, false, cond, _||_, and-eq-true-iff}
 use mathlib.Core.List.{List}
 use native.Mathlib.Omega.{arith}
 use borrow.Author.Tests.{ne-eqb, eqb-true}
 use lib.Dec.{eqb}
-use Rattle.refusal.specs.declared.Refusal.the-variants.{FieldOutside}
+use Rattle.refusal.specs.declared.Refusal.the-variants.{FieldOutside, RecordBroken}
 use Rattle.refusal.specs.Numbers.{numberOf}
+use Rattle.weight.specs.declared.Reading.{Reading}
 use Rattle.weight.specs.declared.Read.{Read}
 use Rattle.weight.specs.declared.Read.the-variants as read-as
 use Rattle.weight.specs.declared.Value.the-variants as value-as
-use Rattle.weight.specs.Digits.{allDecimal, digitsOf}
-use Rattle.weight.specs.Status.{readingOf}
-use Rattle.weight.specs.Bytes.{readOf, readable}
-use Rattle.weight.proofs.RoundTrip.{bytes-back}
+use Rattle.weight.specs.declared.Packed.the-variants as packed-as
+use Rattle.weight.specs.Digits.{allDecimal, digitsOf, pairOf}
+use Rattle.weight.specs.Status.{readingOf, statusOf}
+use Rattle.weight.specs.Bytes.{inRange, readOf, readable, packedOf}
+use Rattle.weight.proofs.RoundTrip.{bytes-back, written-back}
+use Rattle.codes.specs.declared.table.Role.{Role}
+use Rattle.codes.specs.declared.table.Load.{Load}
 use Rattle.meaning.specs.declared.meaning.What.{What}
 use Rattle.meaning.specs.declared.meaning.What.the-variants as says
+use Rattle.message.specs.declared.reading.Message.{Message}
 use Rattle.message.specs.declared.reading.Received.{Received}
 use Rattle.message.specs.declared.reading.Received.the-variants as received-as
 use Rattle.message.specs.Reading.{readMessage}
@@ -25,6 +30,7 @@ use Rattle.records.specs.declared.records.Record.{Record}
 use Rattle.records.specs.declared.reading.RecordRead.{RecordRead}
 use Rattle.records.specs.declared.reading.RecordRead.the-variants as record-read-as
 use Rattle.records.specs.Records.{weighs, wasMet, readingIn, goodAddress, goodWeighing, good}
+use Rattle.records.specs.Weighings.{weightNoted}
 use Rattle.records.specs.Reading.{readRecord}
 use Rattle.records.proofs.Unweighed.{met-unheard, met-refusal, weighing-noted}
 use Rattle.records.specs.declared.stepping.Stepped.{Stepped}
@@ -33,6 +39,7 @@ use Rattle.weighing_log.specs.declared.hearing.Noted.{Noted}
 use Rattle.weighing_log.specs.declared.hearing.Noted.the-variants as noted-as
 use Rattle.records.specs.Stepping.{stepped}
 use Rattle.weighing_log.specs.Hearing.{notedHeard}
+use Rattle.line.specs.declared.places.Event.{Event}
 use Rattle.line.specs.Readers.{heardAs}
 use Rattle.crossing.specs.declared.events.Given.{Given}
 use Rattle.crossing.specs.declared.events.Given.the-variants as given-as
@@ -46,12 +53,25 @@ use Rattle.quay_weight.specs.Weights.{weightIn, valueOut, differenceRead}
 use Rattle.quay_message.specs.Messages.{whatOut, receivedOut, messageIn}
 use Rattle.quay_log.specs.declared.logs.QuayRecord.{QuayRecord}
 use Rattle.quay_log.specs.Records.{noDigits, recordOut, noRecord, readOut, steppedOut, notedOut, recordHeard}
-use Rattle.demands.specs.Unheard.{NotesNoWeight, NotesItsWeight, NoWeight, handedOn, HandsOnNoWeight, saysWeight, NeverAWeight}
+use Rattle.demands.specs.Unheard.{NotesNoWeight, NotesItsWeight, NoWeight, WeightOf, handedOn, HandsOnNoWeight, HandsOnItsBytes, saysWeight, SaysItsWeight, NeverAWeight, AlwaysItsWeight}
+use Rattle.demands.proofs.WrittenDown.{said-legal}
 
 -- ---- the weight that a record notes
 
-notes-none : (item : Record) → wasMet item ≡ true → NotesNoWeight item
-notes-none item met = record { no-reading = met-unheard item met; its-refusal = λ is-good. met-refusal item is-good met }
+-- neither a weighing nor kind 3 is no good record
+not-good : (item : Record) → weighs item ≡ false → wasMet item ≡ false → (reading : Reading) → weightNoted item ≡ read-as.Good reading → ⊥
+unfolding weightNoted good
+not-good item none unmet reading e =
+    let broken : read-as.Refused RecordBroken ≡ read-as.Good reading = rw (none, unmet) at e in
+    let clash : _≡_ {A = ℕ} 0 1 = cc in
+    omega arith
+
+notes-none : (item : Record) → weighs item ≡ false → NotesNoWeight item
+notes-none item none = record { no-reading = by-kind (wasMet item) refl; its-refusal = λ met is-good. met-refusal item is-good met }
+  where
+    by-kind : (met : Bool) → wasMet item ≡ met → (reading : Reading) → weightNoted item ≡ read-as.Good reading → ⊥
+    by-kind true met = met-unheard item met
+    by-kind false unmet = not-good item none unmet
 
 -- a weighing is of kind 1 or 2, and so was not met
 not-met : (item : Record) → weighs item ≡ true → wasMet item ≡ false
@@ -60,6 +80,21 @@ not-met item weighing = by-gross (eqb (item .kind) 1) refl
     by-gross : (gross : Bool) → eqb (item .kind) 1 ≡ gross → wasMet item ≡ false
     by-gross true e = rw (eqb-true (item .kind) 1 e)
     by-gross false e = rw (eqb-true (item .kind) 2 (rw e at weighing))
+
+-- four bytes that a reading packs to are its weight
+weight-of : (mine : Reading) (w0 w1 w2 con : ℕ) → packedOf mine ≡ packed-as.Bytes w0 w1 w2 con → WeightOf mine (record { w0 = w0; w1 = w1; w2 = w2; con = con })
+weight-of mine w0 w1 w2 con packs =
+    let read = written-back mine w0 w1 w2 con packs in
+    record {
+      bytes = packs;
+      reading = rw read;
+      value = rw read;
+      kilograms = rw read;
+      less = λ (other : Reading) (net : QuayWeight) (is : weightIn net ≡ read-as.Good other). rw (read, is);
+    }
+
+hands-on : (item : Record) → weighs item ≡ true → HandsOnItsBytes item (recordOut item)
+hands-on item weighing = rw weighing
 
 notes-its : (item : Record) → good item ≡ true → weighs item ≡ true → item .status < 256 → NotesItsWeight item
 unfolding good goodWeighing
@@ -70,6 +105,9 @@ notes-its item is-good weighing small = by-read (readingIn item) refl (and-eq-tr
       reading = reading;
       noted = weighing-noted item is-good (not-met item weighing) ∙ e;
       bytes = bytes-back (item .w0) (item .w1) (item .w2) (item .status) small reading e;
+      across =
+          rw (hands-on item weighing)
+          (weight-of reading (item .w0) (item .w1) (item .w2) (item .status) (bytes-back (item .w0) (item .w1) (item .w2) (item .status) small reading e));
     }
     by-read (read-as.Refused why) e can = let clash : _≡_ {A = Bool} true false = sym can in let z : _≡_ {A = ℕ} 0 1 = cc in absurd (omega arith)
 
@@ -149,10 +187,32 @@ message-none (asked-as.Refused why) body other = no-digits 255
 
 pub never-a-weight : NeverAWeight
 never-a-weight = record {
-  met = notes-none;
-  weighed = notes-its;
+  unweighed = notes-none;
   record-read = λ (bytes : List ℕ). read-none (readRecord bytes);
   log-stepped = λ (log : List ℕ) (place : ℕ). stepped-none place (stepped log place);
   event-recorded = λ (time role : ℕ) (event : QuayEvent) (body : List ℕ). heard-none time (roleFrom role) (eventFrom event) body;
   message-read = λ (role : ℕ) (body : List ℕ). message-none (roleFrom role) body;
+}
+
+-- ---- the other half
+
+-- a reading within its ranges has four bytes
+packs : (reading : Reading) → inRange reading ≡ true
+    → packedOf reading ≡ packed-as.Bytes (pairOf (reading .number)) (pairOf (reading .number / 100)) (pairOf (reading .number / 10000)) (statusOf reading)
+unfolding packedOf
+packs reading within = rw within
+
+says-its : (role : Role) (body : List ℕ) (message : Message) (load : Load) (reading : Reading) → readMessage role body ≡ received-as.Message message
+    → message .what ≡ says.Weight load reading → SaysItsWeight load reading (messageIn (asked-as.Role role) body .what)
+says-its role body message load reading was said =
+    let is = packs reading (said-legal role body message was load reading said) in
+    record { says = rw (was, said); kind = rw (was, said); weight = rw (was, said, is) (weight-of reading _ _ _ _ is) }
+
+pub always-its-weight : AlwaysItsWeight
+always-its-weight = record {
+  weighed = notes-its;
+  record-read = λ bytes item was weighing. rw was (hands-on item weighing);
+  log-stepped = λ log place next item was weighing. rw was (hands-on item weighing);
+  event-recorded = λ time number role event given body item asked is was weighing. rw (asked, is, was) (hands-on item weighing);
+  message-read = λ number role body message load reading asked was said. rw asked (says-its role body message load reading was said);
 }

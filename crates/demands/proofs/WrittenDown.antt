@@ -59,7 +59,7 @@ read-legal w0 w1 w2 con reading = by-decimal (allDecimal w0 w1 w2) refl
     by-decimal false good e = cc
 
 module _ (role : Role) (body : List ℕ) (message : Message) (was : readMessage role body ≡ received-as.Message message) where
-  said-legal : (load : Load) (reading : Reading) → message .what ≡ says.Weight load reading → inRange reading ≡ true
+  pub said-legal : (load : Load) (reading : Reading) → message .what ≡ says.Weight load reading → inRange reading ≡ true
   unfolding readIn
   said-legal load reading said = read-legal _ _ _ _ reading (row-is role body message was load reading said .1)
 

@@ -1,8 +1,9 @@
 -- "A weight that wasn't heard must never look like a weight of nothing." A record of kind 3 has zeros where a weighing has its digits (01, "Log
--- records"). So no function of the library gives a reading, a value or kilograms for it, in Rattle or to another language.
+-- records"). So no function of the library gives a reading, a value or kilograms for it, or for anything else that is no weighing, in Rattle
+-- or to another language. The other half: a weighing gives its own, so that a library which refused everything would be seen.
 use Prim.Native.Nat.{ℕ, _<_}
 use mathlib.Core.Path.{_≡_}
-use mathlib.Core.Bool.{true}
+use mathlib.Core.Bool.{true, false}
 use mathlib.Core.List.{List}
 use Rattle.refusal.specs.declared.Refusal.{Refusal}
 use Rattle.refusal.specs.declared.Refusal.the-variants.{FieldOutside}
@@ -12,34 +13,45 @@ use Rattle.weight.specs.declared.Read.the-variants as read-as
 use Rattle.weight.specs.declared.Value.the-variants as value-as
 use Rattle.weight.specs.declared.Packed.the-variants as packed-as
 use Rattle.weight.specs.Bytes.{packedOf}
+use Rattle.weight.specs.Tenths.{valueOf, differenceOf}
 use Rattle.kilograms.specs.declared.Kilograms.the-variants as kilograms-as
+use Rattle.kilograms.specs.Rounded.{kilogramsOf}
+use Rattle.line.specs.declared.places.Event.{Event}
+use Rattle.line.specs.Readers.{heardAs}
+use Rattle.codes.specs.declared.table.Role.{Role}
+use Rattle.codes.specs.declared.table.Load.{Load}
 use Rattle.codes.specs.declared.table.Load.the-variants.{Net, Gross}
+use Rattle.meaning.specs.declared.meaning.What.the-variants as says
+use Rattle.message.specs.declared.reading.Message.{Message}
+use Rattle.message.specs.declared.reading.Received.the-variants as received-as
+use Rattle.message.specs.Reading.{readMessage}
 use Rattle.records.specs.declared.records.Record.{Record}
+use Rattle.records.specs.declared.reading.RecordRead.the-variants as record-read-as
+use Rattle.records.specs.declared.stepping.Stepped.the-variants as stepped-as
 use Rattle.records.specs.Records.{kindOf, weighs, wasMet, good}
 use Rattle.records.specs.Reading.{readRecord}
 use Rattle.records.specs.Weighings.{weightNoted}
 use Rattle.records.specs.Stepping.{stepped}
+use Rattle.weighing_log.specs.declared.hearing.Noted.the-variants as noted-as
+use Rattle.weighing_log.specs.Hearing.{notedHeard}
 use Rattle.crossing.specs.declared.events.QuayEvent.{QuayEvent}
+use Rattle.crossing.specs.declared.events.Given.the-variants as given-as
+use Rattle.crossing.specs.declared.roles.Asked.the-variants as asked-as
 use Rattle.crossing.specs.declared.weights.QuayWeight.{QuayWeight}
 use Rattle.crossing.specs.Events.{eventFrom}
 use Rattle.crossing.specs.Roles.{roleFrom}
-use Rattle.quay_weight.specs.Weights.{weightIn, noReading, readingOut, valueOut, valueRead, differenceRead, kilogramsOut, kilogramsRead}
+use Rattle.quay_weight.specs.Weights.{weightIn, goodReading, noReading, readingOut, valueOut, valueRead, differenceRead, kilogramsOut, kilogramsRead}
+use Rattle.quay_message.specs.declared.messages.QuayWhat.{QuayWhat}
 use Rattle.quay_message.specs.Messages.{messageIn}
 use Rattle.quay_log.specs.declared.logs.QuayRecord.{QuayRecord}
-use Rattle.quay_log.specs.Records.{readOut, steppedOut, recordHeard}
+use Rattle.quay_log.specs.Records.{recordOut, readOut, steppedOut, recordHeard}
 
 -- ---- in Rattle: the weight that a record notes
 
--- for kind 3 it is the refusal that the record notes and never a reading, also if the record breaks a rule
+-- for what is no weighing it is never a reading, also if the record breaks a rule; for kind 3 it is the refusal that the record notes
 pub record NotesNoWeight (item : Record) : Type 0 where
   pub no-reading : (reading : Reading) → weightNoted item ≡ read-as.Good reading → ⊥
-  pub its-refusal : good item ≡ true → (why : Refusal) → item .status ≡ numberOf why → weightNoted item ≡ read-as.Refused why
-
--- for a weighing it is the reading of the record's own four bytes
-pub record NotesItsWeight (item : Record) : Type 0 where
-  pub reading : Reading
-  pub noted : weightNoted item ≡ read-as.Good reading
-  pub bytes : packedOf reading ≡ packed-as.Bytes (item .w0) (item .w1) (item .w2) (item .status)
+  pub its-refusal : wasMet item ≡ true → good item ≡ true → (why : Refusal) → item .status ≡ numberOf why → weightNoted item ≡ read-as.Refused why
 
 -- ---- across: four bytes that a caller hands on as a weight
 
@@ -51,6 +63,15 @@ pub record NoWeight (weight : QuayWeight) : Type 0 where
   pub as-gross : (net : QuayWeight) → valueOut (differenceRead (weightIn weight) (weightIn net)) ≡ valueOut (value-as.Refused FieldOutside)
   pub as-net : (gross : QuayWeight) → valueOut (differenceRead (weightIn gross) (weightIn weight)) ≡ valueOut (value-as.Refused FieldOutside)
 
+-- or each answers for one reading, whose four bytes they are
+pub record WeightOf (mine : Reading) (weight : QuayWeight) : Type 0 where
+  pub bytes : packedOf mine ≡ packed-as.Bytes (weight .w0) (weight .w1) (weight .w2) (weight .con)
+  pub reading : readingOut (weightIn weight) ≡ goodReading mine
+  pub value : valueOut (valueRead (weightIn weight)) ≡ valueOut (valueOf mine)
+  pub kilograms : kilogramsOut (kilogramsRead (weightIn weight)) ≡ kilogramsOut (kilogramsOf mine)
+  pub less : (other : Reading) (net : QuayWeight) → weightIn net ≡ read-as.Good other
+      → valueOut (differenceRead (weightIn weight) (weightIn net)) ≡ valueOut (differenceOf mine other)
+
 -- the four bytes of a record that crossed: W0 W1 W2, and its status for CON
 abbrev pub handedOn : QuayRecord → QuayWeight
 handedOn item = record { w0 = item .w0; w1 = item .w1; w2 = item .w2; con = item .status }
@@ -59,14 +80,45 @@ handedOn item = record { w0 = item .w0; w1 = item .w1; w2 = item .w2; con = item
 abbrev pub HandsOnNoWeight : QuayRecord → Type 0
 HandsOnNoWeight item = (item .kind ≡ kindOf Gross → ⊥) → (item .kind ≡ kindOf Net → ⊥) → NoWeight (handedOn item)
 
+-- a weighing hands on exactly its own four bytes
+abbrev pub HandsOnItsBytes : Record → QuayRecord → Type 0
+HandsOnItsBytes item out = handedOn out ≡ record { w0 = item .w0; w1 = item .w1; w2 = item .w2; con = item .status }
+
 -- 4 says that a message says a weight
 abbrev pub saysWeight : ℕ
 saysWeight = 4
 
 pub record NeverAWeight : Type 0 where
-  pub met : (item : Record) → wasMet item ≡ true → NotesNoWeight item
-  pub weighed : (item : Record) → good item ≡ true → weighs item ≡ true → item .status < 256 → NotesItsWeight item
+  pub unweighed : (item : Record) → weighs item ≡ false → NotesNoWeight item
   pub record-read : (bytes : List ℕ) → HandsOnNoWeight (readOut (readRecord bytes))
   pub log-stepped : (log : List ℕ) (place : ℕ) → HandsOnNoWeight (steppedOut place (stepped log place) .item)
   pub event-recorded : (time role : ℕ) (event : QuayEvent) (body : List ℕ) → HandsOnNoWeight (recordHeard time (roleFrom role) (eventFrom event) body)
   pub message-read : (role : ℕ) (body : List ℕ) → (messageIn (roleFrom role) body .what .says ≡ saysWeight → ⊥) → NoWeight (messageIn (roleFrom role) body .what .weight)
+
+-- ---- the other half
+
+-- a good weighing notes a reading, and hands on the weight of it
+pub record NotesItsWeight (item : Record) : Type 0 where
+  pub reading : Reading
+  pub noted : weightNoted item ≡ read-as.Good reading
+  pub bytes : packedOf reading ≡ packed-as.Bytes (item .w0) (item .w1) (item .w2) (item .status)
+  pub across : WeightOf reading (handedOn (recordOut item))
+
+-- a message that says a weight crosses as one, with the four bytes that its reading packs to
+pub record SaysItsWeight (load : Load) (reading : Reading) (what : QuayWhat) : Type 0 where
+  pub says : what .says ≡ saysWeight
+  pub kind : what .load ≡ kindOf load
+  pub weight : WeightOf reading (what .weight)
+
+pub record AlwaysItsWeight : Type 0 where
+  pub weighed : (item : Record) → good item ≡ true → weighs item ≡ true → item .status < 256 → NotesItsWeight item
+  pub record-read : (bytes : List ℕ) (item : Record) → readRecord bytes ≡ record-read-as.Record item → weighs item ≡ true
+      → HandsOnItsBytes item (readOut (readRecord bytes))
+  pub log-stepped : (log : List ℕ) (place next : ℕ) (item : Record) → stepped log place ≡ stepped-as.Record item next → weighs item ≡ true
+      → HandsOnItsBytes item (steppedOut place (stepped log place) .item)
+  pub event-recorded : (time number : ℕ) (role : Role) (event : QuayEvent) (given : Event) (body : List ℕ) (item : Record)
+      → roleFrom number ≡ asked-as.Role role → eventFrom event ≡ given-as.Event given → notedHeard time role (heardAs given body) ≡ noted-as.Record item
+      → weighs item ≡ true → HandsOnItsBytes item (recordHeard time (roleFrom number) (eventFrom event) body)
+  pub message-read : (number : ℕ) (role : Role) (body : List ℕ) (message : Message) (load : Load) (reading : Reading)
+      → roleFrom number ≡ asked-as.Role role → readMessage role body ≡ received-as.Message message → message .what ≡ says.Weight load reading
+      → SaysItsWeight load reading (messageIn (roleFrom number) body .what)
