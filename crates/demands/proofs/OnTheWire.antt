@@ -3,7 +3,7 @@
 use Prim.Native.Nat.{ℕ, _%_, _^_}
 use mathlib.Core.Path.{_≡_, _∙_, refl, sym, ap, subst}
 use mathlib.Core.Bool.{Bool, true, false, cond}
-use mathlib.Core.List.{List, [], _∷_, _++_, append-assoc, append-nil}
+use mathlib.Core.List.{List, [], _∷_, _++_, append-assoc, append-nil, List·Memᴰ}
 use native.Mathlib.Nat.{mod-add-mod}
 use borrow.Author.Tests.{eqb-true}
 use lib.Dec.{ltb, eqb}
@@ -11,12 +11,19 @@ use lib.ListN.{length, length-append}
 use Rattle.refusal.specs.declared.Refusal.the-variants.{BodyLong, HeldBroken}
 use Rattle.refusal.specs.declared.Verdict.{Verdict}
 use Rattle.refusal.specs.declared.Verdict.the-variants.{Good, Refused}
-use Rattle.body.specs.Body.{longest, judged}
+use Rattle.body.specs.declared.addresses.Address.{Address}
+use Rattle.body.specs.Body.{longest, bodyOf, judged}
 use Rattle.frame.specs.Stuffing.{stuffedByte, stuffed, framed}
 use Rattle.frame.proofs.Stuffing.{stuffed-append}
 use Rattle.line.specs.Listener.{State, seeking, delimited, inside, held, Heard, nothing, frame, refused, Listener, Step, fresh, step, keep, ended, tick, hearIn, hear, events, after}
+use Rattle.line.specs.Readers.{listening, freshReader}
 use Rattle.line.proofs.EveryStep.{every-event}
-use Rattle.demands.specs.OnTheWire.{EndsWith, FrameJustTaken, StandsIn, FramesOnTheWire}
+use Rattle.codes.specs.declared.table.Load.{Load}
+use Rattle.records.specs.Records.{addressOf}
+use Rattle.weighing_log.specs.Heard.{codeOf}
+use Rattle.demands.specs.Weighings.{ReplyHeard}
+use Rattle.demands.proofs.Weighings.{log-as-heard, listing-as-heard}
+use Rattle.demands.specs.OnTheWire.{EndsWith, FrameJustTaken, StandsIn, FramesOnTheWire, ReplyIn, LogOnTheWire, ListingOnTheWire}
 
 -- ---- one byte
 
@@ -183,3 +190,40 @@ pub frames-on-the-wire : FramesOnTheWire
 unfolding Stands
 frames-on-the-wire bytes wire kept body among =
     every-event (Midway bytes) (Stands bytes) (one-on bytes) fresh bytes (record { taken = []; is = refl; known = tt; count = refl }) (frame wire kept body) among
+
+-- ---- a weighing and a weight
+
+reply-in : (bytes : List ℕ) (heard : Heard) (load : Load) (address : Address) (four : List ℕ) → List·Memᴰ heard (events fresh bytes)
+    → ReplyHeard heard load address four → ReplyIn bytes load address four
+reply-in bytes heard load address four among reply =
+    let body = bodyOf address (codeOf load) four in
+    record {
+      wire = reply .wire;
+      stands =
+          frames-on-the-wire bytes (reply .wire) (reply .kept) body
+          (subst (λ (one : Heard). List·Memᴰ one (events fresh bytes)) (reply .body) among);
+    }
+
+pub log-on-the-wire : LogOnTheWire
+unfolding listening
+log-on-the-wire bytes small time role item among weighing =
+    let found = log-as-heard freshReader tt bytes small time role item among weighing in
+    record {
+      load = found .such .load;
+      kind = found .such .kind;
+      as-reply = found .such .as-reply;
+      reply = reply-in bytes (found .event) (found .such .load) (addressOf item) _ (found .among) (found .such .reply);
+    }
+
+pub listing-on-the-wire : ListingOnTheWire
+unfolding listening
+listing-on-the-wire bytes small load address reading among =
+    let found = listing-as-heard freshReader tt bytes small load address reading among in
+    record {
+      w0 = found .such .w0;
+      w1 = found .such .w1;
+      w2 = found .such .w2;
+      con = found .such .con;
+      packed = found .such .packed;
+      reply = reply-in bytes (found .event) load address _ (found .among) (found .such .reply);
+    }
