@@ -2,7 +2,7 @@
 -- Why: a body put together from such parts is read as the message of its parts, and a reading packs to the bytes that it was read from.
 use Prim.Native.Nat.{ℕ, _+_, _≤_}
 use mathlib.Core.Path.{_≡_, _∙_, refl}
-use mathlib.Core.List.{List, [], _∷_}
+use mathlib.Core.List.{List, [], _∷_, List·Memᴰ, List·Memᴰ·head, List·Memᴰ·tail, List·Memᴰ·not-nil}
 use native.Mathlib.Omega.{arith}
 use lib.ListN.{length, replicate, length-replicate}
 use Rattle.refusal.specs.declared.Verdict.the-variants.{Good}
@@ -12,6 +12,7 @@ use Rattle.body.specs.Addresses.{addressLength}
 use Rattle.body.specs.Body.{bodyOf}
 use Rattle.body.proofs.Anatomy.{body-length}
 use Rattle.frame.specs.Stuffing.{needed}
+use Rattle.line.specs.Listener.{Heard}
 use Rattle.weight.specs.declared.Reading.{Reading}
 use Rattle.weight.specs.declared.Read.the-variants as read-as
 use Rattle.weight.specs.declared.Packed.the-variants as packed-as
@@ -19,6 +20,7 @@ use Rattle.weight.specs.Digits.{digitsOf}
 use Rattle.weight.specs.Status.{readingOf}
 use Rattle.weight.specs.Bytes.{readOf, packedOf}
 use Rattle.weight.proofs.RoundTrip.{bytes-back}
+use Rattle.codes.specs.declared.table.Role.{Role}
 use Rattle.codes.specs.declared.table.Role.the-variants.{Reply}
 use Rattle.codes.specs.declared.table.Load.{Load}
 use Rattle.codes.specs.declared.table.Load.the-variants.{Net, Gross}
@@ -31,10 +33,14 @@ use Rattle.message.specs.declared.reading.Received.the-variants as received-as
 use Rattle.message.specs.Reading.{messageOf, readMessage}
 use Rattle.message.specs.Writing.{judgedMessageWrite}
 use Rattle.message.proofs.RoundTrip.{may-be-written, read-back}
-use Rattle.weighing_log.specs.Hearing.{recordOf}
+use Rattle.records.specs.declared.records.Record.{Record}
+use Rattle.weighing_log.specs.declared.hearing.Noted.{Noted}
+use Rattle.weighing_log.specs.declared.hearing.Noted.the-variants as noted-as
+use Rattle.weighing_log.specs.Hearing.{recordOf, notedHeard}
 use Rattle.weighing_log.specs.Heard.{codeOf}
 use Rattle.entries.specs.Entries.{entryHeard}
-use Rattle.demands.specs.Kept.{WeightReply, WeightsKept}
+use Rattle.demands.specs.Kept.{WeightReply, WeightsKept, LogKeepsEach}
+use Rattle.demands.specs.Weighings.{noteThen, recordsFrom}
 
 row : (load : Load) → rowOf Reply (codeOf load) ≡ Weight load
 unfolding rowOf lineOf lineIn
@@ -95,3 +101,29 @@ weights-kept wire kept address load w0 w1 w2 con reply =
       noted = λ (time : ℕ). rw (is, says-it, packed, reply .from);
       listed = record { reading = reading address load w0 w1 w2 con reply; packed = packed; listed = rw (is, says-it) };
     }
+
+-- ---- all that a line gives
+
+behind-note : (made : Noted) {item : Record} {later : List Record} → List·Memᴰ item later → List·Memᴰ item (noteThen made later)
+behind-note noted-as.Nothing among = among
+behind-note (noted-as.Record other) among = List·Memᴰ·tail among
+behind-note (noted-as.Refused why) among = among
+
+module _ (time : ℕ → ℕ) (role : Role) (one : Heard) (makes : ℕ → Record) (made : (at : ℕ) → notedHeard at role one ≡ noted-as.Record (makes at)) where
+  -- the same from any number on
+  record From (number : ℕ) (heard : List Heard) : Type 0 where
+    which : ℕ
+    among : List·Memᴰ (makes (time which)) (recordsFrom time role number heard)
+
+  from : (number : ℕ) (heard : List Heard) → List·Memᴰ one heard → From number heard
+  unfolding recordsFrom
+  from number [] among = absurd (List·Memᴰ·not-nil among)
+  from number (heard ∷ later) (List·Memᴰ·head same) = record { which = number; among = rw (← same, made (time number)) (List·Memᴰ·head refl) }
+  from number (heard ∷ later) (List·Memᴰ·tail among) =
+      let found = from (number + 1) later among in
+      record { which = found .which; among = behind-note (notedHeard (time number) role heard) (found .among) }
+
+pub log-keeps-each : LogKeepsEach
+log-keeps-each time role heard one makes among made =
+    let found = from time role one makes made 1 heard among in
+    record { number = found .which; among = found .among }

@@ -12,6 +12,7 @@ pub mod Logs
 pub mod Loops
 pub mod Messages
 pub mod Noted
+pub mod OnTheWire
 pub mod Piece
 pub mod Reading
 pub mod Shown

@@ -3,7 +3,7 @@
 use Prim.Native.Nat.{ℕ, _<_}
 use mathlib.Core.Path.{_≡_}
 use mathlib.Core.Bool.{true}
-use mathlib.Core.List.{List, [], _∷_}
+use mathlib.Core.List.{List, [], _∷_, List·Memᴰ}
 use Rattle.body.specs.declared.addresses.Address.{Address}
 use Rattle.body.specs.Addresses.{legal}
 use Rattle.body.specs.Body.{bodyOf}
@@ -12,13 +12,16 @@ use Rattle.weight.specs.declared.Reading.{Reading}
 use Rattle.weight.specs.declared.Packed.the-variants as packed-as
 use Rattle.weight.specs.Digits.{allDecimal}
 use Rattle.weight.specs.Bytes.{packedOf}
+use Rattle.codes.specs.declared.table.Role.{Role}
 use Rattle.codes.specs.declared.table.Role.the-variants.{Reply}
 use Rattle.codes.specs.declared.table.Load.{Load}
+use Rattle.records.specs.declared.records.Record.{Record}
 use Rattle.weighing_log.specs.declared.hearing.Noted.the-variants as noted-as
 use Rattle.weighing_log.specs.Hearing.{weighing, notedHeard}
 use Rattle.weighing_log.specs.Heard.{codeOf}
 use Rattle.entries.specs.declared.entries.Entry.the-variants as entry-as
 use Rattle.entries.specs.Entries.{entryHeard}
+use Rattle.demands.specs.Weighings.{recordsHeard}
 
 -- "C2 net, C3 gross", "W0 W1 W2 CON": a frame with a legal address, "good decimal" weight bytes, and a status byte, which is any byte
 pub record WeightReply (address : Address) (w0 w1 w2 con : ℕ) : Type 0 where
@@ -43,3 +46,16 @@ abbrev pub WeightsKept : Type 0
 WeightsKept =
     (wire kept : ℕ) (address : Address) (load : Load) (w0 w1 w2 con : ℕ) → WeightReply address w0 w1 w2 con
     → KeptWeight (replyFrame wire kept address load w0 w1 w2 con) address load w0 w1 w2 con
+
+-- ---- all that a line gives
+
+-- in the log that a line makes: at the time of some event
+pub record InLog (time : ℕ → ℕ) (role : Role) (heard : List Heard) (makes : ℕ → Record) : Type 0 where
+  pub number : ℕ
+  pub among : List·Memᴰ (makes (time number)) (recordsHeard time role heard)
+
+-- each event that makes a record, a weighing or a refusal's, has it in the log
+abbrev pub LogKeepsEach : Type 0
+LogKeepsEach =
+    (time : ℕ → ℕ) (role : Role) (heard : List Heard) (one : Heard) (makes : ℕ → Record) → List·Memᴰ one heard
+    → ((at : ℕ) → notedHeard at role one ≡ noted-as.Record (makes at)) → InLog time role heard makes

@@ -5,6 +5,7 @@ pub mod Logs
 pub mod Loops
 pub mod Messages
 pub mod Noted
+pub mod OnTheWire
 pub mod Reading
 pub mod Shown
 pub mod Stops
