@@ -1,4 +1,4 @@
--- Shown: what frame writing may answer once a body was made ready, or refused, is what the paper's order 5, 2, 9 answers.
+-- Shown: once a body was made ready, or refused, the verdict of frame writing is that of the paper's order 5, 2, 9.
 -- Why: the verdict on the fields decides the rest, and a body made ready is the one the frame is defined by.
 use Prim.Native.Nat.{ℕ, _+_, _≤_, _<_}
 use mathlib.Core.Path.{_≡_, _∙_, refl, sym, ap}
@@ -10,24 +10,22 @@ use lib.Dec.{ltb}
 use lib.ListN.{length, take}
 use lib.Seq.{take-at}
 use Rattle.refusal.specs.declared.Refusal.{Refusal}
-use Rattle.refusal.specs.declared.Refusal.the-variants.{AddressIllegal, BodyLong, RoomShort}
+use Rattle.refusal.specs.declared.Refusal.the-variants.{AddressIllegal, BodyLong}
 use Rattle.refusal.specs.declared.Verdict.{Verdict}
 use Rattle.refusal.specs.declared.Verdict.the-variants.{Good, Refused}
 use Rattle.refusal.specs.Numbers.{refuseIf}
 use Rattle.refusal.proofs.Verdicts.{refused-not-good, test-passed, rest-passed, Tells, under-good, under-refused}
-use Rattle.room.specs.declared.Written.{Written}
 use Rattle.room.specs.Laying.{Laid}
-use Rattle.room.specs.Writing.{Leaves, refusedWrite}
+use Rattle.room.specs.Writing.{judgedRoom}
 use Rattle.room.proofs.Over.{laid-front}
 use Rattle.body.specs.declared.addresses.Address.{Address}
 use Rattle.frame.specs.declared.writing.Needed.the-variants as needed-as
 use Rattle.body.specs.Addresses.{legal}
 use Rattle.body.specs.Body.{bodyOf}
-use Rattle.frame.specs.Stuffing.{framed, countFF, needed}
-use Rattle.frame.specs.Writing.{judgedFields, neededFor, judgedWrite, writtenFrame}
+use Rattle.frame.specs.Stuffing.{countFF, needed}
+use Rattle.frame.specs.Writing.{judgedFields, neededFor, judgedWrite}
 use Rattle.frame.specs.Preparing.{Prepared}
 use Rattle.frame.proofs.Pieces.{read-back}
-use Rattle.frame.proofs.Stuffing.{framed-length}
 
 needed-tells : Tells needed-as.Bytes needed-as.Refused
 needed-tells = record { value = λ e. cc; refusal = λ e. cc; apart = λ e. cc }
@@ -80,37 +78,22 @@ module _ (address : Address) (code : ℕ) (data′ : List ℕ) where
       let fits = le-ltb 255 _ (good-length good) in
       rw (is-legal, fits)
 
-  -- 5 or 2
-  pub refused-leaves : {why : Refusal} {empty left room : List ℕ} {answered : Written} → Prepared address code data′ empty (needed-as.Refused why) left
-      → answered ≡ refusedWrite why → Leaves (writtenFrame address code data′ room) answered room
-  unfolding neededFor writtenFrame judgedWrite judgedFields
-  refused-leaves {why} {empty} {left} {room} p e =
+  -- the verdict on the write: 5 or 2; or else 9 alone is left to be judged
+  pub fields-refused : {why : Refusal} {empty left : List ℕ} (room : List ℕ) → Prepared address code data′ empty (needed-as.Refused why) left
+      → judgedWrite address code data′ room ≡ Refused why
+  unfolding neededFor judgedWrite judgedFields
+  fields-refused {why} room p =
       let verdict = under-refused needed-tells (judgedFields address code data′ Good) _ why (sym (p .answer)) in
-      let stays = chain-refused (not (legal address)) (ltb 255 (length (bodyOf address code data′))) _ _ (refuseIf (ltb (length room) (needed (bodyOf address code data′))) RoomShort Good) why verdict in
-      rw stays (record { answer = e; room = refl })
+      chain-refused (not (legal address)) (ltb 255 (length (bodyOf address code data′))) _ _ (judgedRoom (needed (bodyOf address code data′)) room) why verdict
 
-  -- 9
-  pub short-leaves : {n : ℕ} {empty left room : List ℕ} {answered : Written} → Prepared address code data′ empty (needed-as.Bytes n) left
-      → length room < n → answered ≡ refusedWrite RoomShort → Leaves (writtenFrame address code data′ room) answered room
-  unfolding writtenFrame judgedWrite
-  short-leaves {n} {empty} {left} {room} p short e =
-      let good = bytes-good p in
-      let under : length room < needed (bodyOf address code data′) = rw (good .1) at short in
-      rw (fields-good (refuseIf (ltb (length room) (needed (bodyOf address code data′))) RoomShort Good) (good .0), lt-ltb _ _ under) (record { answer = e; room = refl })
+  pub room-left : {n : ℕ} {empty left : List ℕ} (room : List ℕ) → Prepared address code data′ empty (needed-as.Bytes n) left
+      → judgedWrite address code data′ room ≡ judgedRoom n room
+  unfolding judgedWrite
+  room-left room p =
+      fields-good (judgedRoom (needed (bodyOf address code data′)) room) (bytes-good p .0) ∙ ap (λ (n : ℕ). judgedRoom n room) (sym (bytes-good p .1))
 
   -- the body made ready is there to be read
   pub ready-body : {n end : ℕ} {empty left : List ℕ} → Prepared address code data′ empty (needed-as.Bytes n) left
       → end ≡ length (bodyOf address code data′) → take end left ≡ bodyOf address code data′
   ready-body {n} {end} {empty} {left} p e =
       ap (λ (l : List ℕ). take end l) (p .body (bytes-good p .0)) ∙ take-at (bodyOf address code data′) _ end (sym e)
-
-  -- the frame
-  pub good-leaves : {n length′ : ℕ} {empty left room wrote : List ℕ} → Prepared address code data′ empty (needed-as.Bytes n) left → n ≤ length room
-      → Laid 0 (framed (bodyOf address code data′)) room length′ wrote → Leaves (writtenFrame address code data′ room) (record { verdict = Good; length = length′ }) wrote
-  unfolding writtenFrame judgedWrite
-  good-leaves {n} {length′} {empty} {left} {room} p enough laid =
-      let good = bytes-good p in
-      let reaches : needed (bodyOf address code data′) ≤ length room = rw (good .1) at enough in
-      let fits : length (framed (bodyOf address code data′)) ≤ length room = rw (framed-length (bodyOf address code data′)) reaches in
-      rw (fields-good (refuseIf (ltb (length room) (needed (bodyOf address code data′))) RoomShort Good) (good .0), le-ltb _ _ reaches)
-      (record { answer = ap (λ (n : ℕ). record { verdict = Good; length = n }) (laid-front fits laid .0); room = laid-front fits laid .1 })

@@ -7,21 +7,17 @@ use mathlib.Core.List.{List, _++_}
 use lib.ListN.{length, drop}
 use Rattle.refusal.specs.declared.Refusal.the-variants.{FieldOutside}
 use Rattle.refusal.specs.Numbers.{refuseIf}
-use Rattle.room.specs.Writing.{Left, judgedRoom, wrote}
+use Rattle.room.specs.Writing.{Left, judgedRoom, wrote, written}
 use Rattle.entries.specs.declared.entries.Entry.{Entry}
 use Rattle.entries.specs.Entries.{sound}
 use Rattle.listing.specs.Lines.{lineOf, totalOf}
-
--- the text stands in the first bytes of the room, and every other byte is as it stood; if refused, every byte is as it stood
-unfoldable pub writtenText : List ℕ → List ℕ → Left
-writtenText text room = wrote (judgedRoom (length text) room) text room
 
 -- 8, 9
 unfoldable pub writtenLine : ℕ → Entry → List ℕ → Left
 writtenLine number entry room = wrote (refuseIf (not (sound entry)) FieldOutside (judgedRoom (length (lineOf number entry)) room)) (lineOf number entry) room
 
 unfoldable pub writtenTotal : ℕ → ℕ → ℕ → List ℕ → Left
-writtenTotal total weights refused room = writtenText (totalOf total weights refused) room
+writtenTotal total weights refused room = written (totalOf total weights refused) room
 
 -- a line is put together from its end: a piece is put ahead of what stands from place `at` on, and the answer is the place where it begins
 pub record Ahead (piece : List ℕ) (at : ℕ) (before : List ℕ) (answered : ℕ) (left : List ℕ) : Type 0 where

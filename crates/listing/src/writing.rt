@@ -10,11 +10,10 @@ use body::Address;
 use codes::Load;
 use entries::Entry;
 use refusal::Refusal;
-use refusal::Verdict;
 use refusal::line_status;
 use room::Written;
-use room::lay;
 use room::refused_write;
+use room::write;
 use weight::Reading;
 use weight::in_range;
 ghost use mathlib.Core.Path.{_≡_};
@@ -22,7 +21,7 @@ ghost use lib.ListN.{length};
 ghost use Rattle.room.specs.Writing.{Leaves};
 ghost use Rattle.entries.specs.Entries.{sound};
 ghost use Rattle.listing.specs.Lines.{lineOf, totalOf};
-ghost use Rattle.listing.specs.Writing.{Ahead, writtenText, writtenLine, writtenTotal};
+ghost use Rattle.listing.specs.Writing.{Ahead, writtenLine, writtenTotal};
 
 // The longest line: a total of three numbers of 20 digits. A weight line has at most 62 bytes.
 const LONGEST_LINE: usize = 85;
@@ -92,20 +91,6 @@ fn is_sound(entry: Entry) -> bool
     }
 }
 
-// A text into lent room, judged 9.
-fn write_text(text: &[u8], room: &mut [u8]) -> Written
-    ensures { λ r. ⌜ Leaves (writtenText (now (text .entry)) (now (room .entry))) r (now (room .exit)) ⌝ }
-{
-    if room.len() < text.len() {
-        return refused_write(Refusal::RoomShort);
-    }
-    let length = lay(text, room, 0);
-    Written {
-        verdict: Verdict::Good,
-        length,
-    }
-}
-
 // Writes the line of an entry, as the event of that number, into lent room. Judged 8, 9. If nothing was heard, there is no line.
 pub fn write_line(number: u64, entry: Entry, room: &mut [u8]) -> Written
     ensures { λ r. ⌜ Leaves (writtenLine number entry (now (room .entry))) r (now (room .exit)) ⌝ }
@@ -115,7 +100,7 @@ pub fn write_line(number: u64, entry: Entry, room: &mut [u8]) -> Written
     }
     let mut text = [0u8; LONGEST_LINE];
     let place = put_line(number, entry, &mut text);
-    write_text(&text[place..LONGEST_LINE], room)
+    write(&text[place..LONGEST_LINE], room)
 }
 
 // Writes the last line of a listing into lent room. Judged 9.
@@ -124,5 +109,5 @@ pub fn write_total(total: u64, weights: u64, refused: u64, room: &mut [u8]) -> W
 {
     let mut text = [0u8; LONGEST_LINE];
     let place = put_total(total, weights, refused, &mut text);
-    write_text(&text[place..LONGEST_LINE], room)
+    write(&text[place..LONGEST_LINE], room)
 }

@@ -2,10 +2,9 @@
 -- Why: behind 5 and 6, 7, 8 the frame writer's own order is what is left, and its 5 is passed.
 use Prim.Native.Nat.{ℕ}
 use mathlib.Core.Path.{_≡_, refl}
-use mathlib.Core.Bool.{true, false}
+use mathlib.Core.Bool.{true}
 use mathlib.Core.List.{List}
 use Rattle.refusal.specs.declared.Refusal.{Refusal}
-use Rattle.refusal.specs.declared.Refusal.the-variants.{AddressIllegal}
 use Rattle.refusal.proofs.Verdicts.{under-good, under-refused}
 use Rattle.room.specs.declared.Written.{Written}
 use Rattle.room.specs.Writing.{Leaves, refusedWrite}
@@ -20,12 +19,6 @@ use Rattle.message.specs.Writing.{judgedMessageWrite, writtenMessage}
 use Rattle.message.proofs.Opening.{told-tells}
 
 module _ (role : Role) (address : Address) (code : ℕ) (data′ room : List ℕ) where
-  -- 5
-  pub illegal-leaves : {answered : Written} → legal address ≡ false → answered ≡ refusedWrite AddressIllegal
-      → Leaves (writtenMessage role address code data′ room) answered room
-  unfolding writtenMessage judgedMessageWrite
-  illegal-leaves illegal e = rw illegal (record { answer = e; room = refl })
-
   -- 6, 7, 8
   pub untold-leaves : {answered : Written} → legal address ≡ true → (why : Refusal) → told role address code data′ ≡ told-as.Refused why
       → answered ≡ refusedWrite why → Leaves (writtenMessage role address code data′ room) answered room

@@ -1,2 +1,3 @@
+pub mod Leaving
 pub mod OneAnswer
 pub mod Over

@@ -9,7 +9,7 @@ use Rattle.laws.proofs.OneAnswer.{one}
 use Rattle.low_first.specs.LowFirst.{lowBytes}
 use Rattle.room.specs.declared.Written.{Written}
 use Rattle.room.specs.Laying.{Laid}
-use Rattle.room.specs.Writing.{Left, Leaves, refusedWrite}
+use Rattle.room.specs.Writing.{Left, Leaves, refusedWrite, written}
 
 pub refused-write-one : (why : Refusal) (a b : Written) → a ≡ refusedWrite why → b ≡ refusedWrite why → a ≡ b
 refused-write-one why a b = one
@@ -26,6 +26,9 @@ lay-low-one number count = lay-one
 -- a write's promise fixes the answer and every byte of the lent room
 pub leaves-one : {write : Left} {a b : Written} {l m : List ℕ} → Leaves write a l → Leaves write b m → (a ≡ b) × (l ≡ m)
 leaves-one p q = (one (p .answer) (q .answer), one (p .room) (q .room))
+
+pub write-one : (bytes room : List ℕ) (a b : Written) (l m : List ℕ) → Leaves (written bytes room) a l → Leaves (written bytes room) b m → (a ≡ b) × (l ≡ m)
+write-one bytes room a b l m = leaves-one
 
 pub front-one : (lent : List ℕ) (count : ℕ) (a b : List ℕ) → a ≡ take count lent → b ≡ take count lent → a ≡ b
 front-one lent count a b = one

@@ -31,6 +31,10 @@ abbrev pub wrote : Verdict → List ℕ → List ℕ → Left
 wrote Good bytes room = record { answer = record { verdict = Good; length = length bytes }; room = over bytes room }
 wrote (Refused why) bytes room = record { answer = refusedWrite why; room = room }
 
+-- bytes in the first places of a room, judged 9: every other byte as it stood; refused, every byte as it stood
+unfoldable pub written : List ℕ → List ℕ → Left
+written bytes room = wrote (judgedRoom (length bytes) room) bytes room
+
 -- a promise: the answer and the room are those of a write, and no others
 pub record Leaves (write : Left) (answered : Written) (left : List ℕ) : Type 0 where
   pub answer : answered ≡ write .answer

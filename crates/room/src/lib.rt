@@ -7,7 +7,7 @@ ghost use mathlib.Core.List.{[], _∷_};
 ghost use lib.ListN.{take};
 ghost use Rattle.low_first.specs.LowFirst.{lowBytes};
 ghost use Rattle.room.specs.Laying.{Laid};
-ghost use Rattle.room.specs.Writing.{refusedWrite};
+ghost use Rattle.room.specs.Writing.{Leaves, refusedWrite, written};
 
 // What a write answers: its own length, or length 0 beside the refusal.
 pub struct Written {
@@ -71,6 +71,20 @@ pub fn lay_low(number: u64, count: usize, room: &mut [u8], at: usize) -> usize
         i += 1;
     }
     next
+}
+
+// Writes bytes at the front of lent room. Judged 9.
+pub fn write(bytes: &[u8], room: &mut [u8]) -> Written
+    ensures { λ r. ⌜ Leaves (written (now (bytes .entry)) (now (room .entry))) r (now (room .exit)) ⌝ }
+{
+    if room.len() < bytes.len() {
+        return refused_write(Refusal::RoomShort);
+    }
+    let length = lay(bytes, room, 0);
+    Written {
+        verdict: Verdict::Good,
+        length,
+    }
 }
 
 // The first bytes that were lent, or all of them if fewer are lent.

@@ -9,7 +9,11 @@ use native.Mathlib.Nat.{sub-zero}
 use mathlib.Core.Path.{_≡_, _∙_, sym, ap}
 use Prim.Native.Nat.{ℕ, _-_}
 use native.Mathlib.Omega.{arith}
-use Rattle.frame.proofs.Ready.{refused-leaves, short-leaves, good-leaves, bytes-good, good-length, ready-body}
+use borrow.Author.Tests.{lt-ltb, le-ltb}
+use Rattle.room.proofs.Leaving.{refused-leaves, good-leaves}
+use Rattle.frame.specs.Writing.{writtenFrame}
+use Rattle.frame.proofs.Stuffing.{framed-length}
+use Rattle.frame.proofs.Ready.{fields-refused, room-left, bytes-good, good-length, ready-body}
 use borrow.Author.Needs.{needs}
 use Rattle.frame.proofs.writing.write.Statement.{statement}
 use Rattle.frame.proofs.writing.write.Tie as tie
@@ -50,7 +54,8 @@ refused-write-requires-2 : tie.Need-refused-write-requires-2
 refused-write-requires-2 c κs = search needs
 
 returns : tie.Need-returns
-returns c = short-leaves _ _ _ (ready (c .before .before)) (c .before .if1 .taken) (c .refused-write2 .ensures)
+unfolding writtenFrame
+returns c = rw (room-left _ _ _ _ (ready (c .before .before)), lt-ltb _ _ (c .before .if1 .taken)) (refused-leaves (c .refused-write2 .ensures))
 
 body-length-requires : tie.Need-body-length-requires
 body-length-requires c κs = search needs
@@ -72,13 +77,21 @@ put-frame-requires c κs =
     rw (put-body sized) (rw (bytes-good _ _ _ (ready sized) .1) at (c .before .before .before .if1 .left))
 
 returns-2 : tie.Need-returns-2
-returns-2 c = refused-leaves _ _ _ (rw (c .before .before .why .given .1) at (c .before .before .before .before .before .prepare .ensures)) (c .refused-write .ensures)
+unfolding writtenFrame
+returns-2 c =
+    rw (fields-refused _ _ _ _ (rw (c .before .before .why .given .1) at (c .before .before .before .before .before .prepare .ensures)))
+    (refused-leaves (c .refused-write .ensures))
 
 same-length : tie.Need-same-length
 same-length c = search needs
 
 returns-3 : tie.Need-returns-3
-returns-3 c = good-leaves _ _ _ (ready (c .before .before .before .before .before .before .before)) (c .before .before .before .before .before .before .if1 .left) (rw (put-body (c .before .before .before .before .before .before .before)) at (c .before .before .put-frame .ensures))
+unfolding writtenFrame
+returns-3 c =
+    let sized = c .before .before .before .before .before .before .before in
+    let enough = c .before .before .before .before .before .before .if1 .left in
+    rw (room-left _ _ _ _ (ready sized), le-ltb _ _ enough)
+    (good-leaves (rw (framed-length _, ← bytes-good _ _ _ (ready sized) .1) enough) (rw (put-body sized) at (c .before .before .put-frame .ensures)))
 
 pub write-spec : {M : Type 1} → statement M
 write-spec =

@@ -1,8 +1,11 @@
 -- `listing::write_line` meets its contract: judged 8 and 9, and then the line in the first bytes of the room.
--- Why: what was put together up to the end of the array is the line, and it is written as a text.
+-- Why: what was put together up to the end of the array is the line, and it is written at once.
 use mathlib.Core.Path.{_∙_, sym, refl}
 use borrow.Author.Tests.{not-true, not-false}
-use Rattle.listing.proofs.Assembled.{read-text, unsound-leaves, sound-leaves}
+use Rattle.room.specs.Writing.{written}
+use Rattle.room.proofs.Leaving.{refused-leaves}
+use Rattle.listing.specs.Writing.{writtenLine}
+use Rattle.listing.proofs.Assembled.{read-text}
 use borrow.Author.Needs.{needs}
 use Rattle.listing.proofs.writing.write_line.Statement.{statement}
 use Rattle.listing.proofs.writing.write_line.Tie as tie
@@ -10,7 +13,7 @@ use Rattle.listing.proofs.writing.write_line.Reads as reads
 use Rattle.listing.proofs.writing.write_line.Lts as lts
 use Rattle.listing.proofs.writing.is_sound.Reads as is-sound-reads
 use Rattle.listing.proofs.writing.put_line.Reads as put-line-reads
-use Rattle.listing.proofs.writing.write_text.Reads as write-text-reads
+use Rattle.room.proofs.write.Reads as write-reads
 use Rattle.room.proofs.refused_write.Reads as refused-write-reads
 
 is-sound-requires : tie.Need-is-sound-requires
@@ -20,7 +23,8 @@ refused-write-requires : tie.Need-refused-write-requires
 refused-write-requires c κs = search needs
 
 returns : tie.Need-returns
-returns c = unsound-leaves _ _ _ (sym (c .before .before .is-sound .ensures) ∙ not-true _ (c .before .if1 .taken)) (c .refused-write .ensures)
+unfolding writtenLine
+returns c = rw (sym (c .before .before .is-sound .ensures) ∙ not-true _ (c .before .if1 .taken)) (refused-leaves (c .refused-write .ensures))
 
 slice-aggregate-put-line : tie.Need-slice-aggregate-put-line
 slice-aggregate-put-line c = search needs
@@ -28,23 +32,27 @@ slice-aggregate-put-line c = search needs
 put-line-requires : tie.Need-put-line-requires
 put-line-requires c κs = search needs
 
-sub-write-text : tie.Need-sub-write-text
-sub-write-text c = search needs
+sub-write : tie.Need-sub-write
+sub-write c = search needs
 
-part-write-text-start : tie.Need-part-write-text-start
-part-write-text-start c = search needs
+part-write-start : tie.Need-part-write-start
+part-write-start c = search needs
 
-part-write-text-end : tie.Need-part-write-text-end
-part-write-text-end c = search needs
+part-write-end : tie.Need-part-write-end
+part-write-end c = search needs
 
-write-text-requires : tie.Need-write-text-requires
-write-text-requires c κs = search needs
+write-requires : tie.Need-write-requires
+write-requires c κs = search needs
 
 same-length : tie.Need-same-length
 same-length c = search needs
 
 returns-2 : tie.Need-returns-2
-returns-2 c = sound-leaves _ _ _ _ (sym (c .before .before .before .before .before .before .before .before .before .before .is-sound .ensures) ∙ not-false _ (c .before .before .before .before .before .before .before .before .before .if1 .left)) (read-text _ 85 refl (c .before .before .before .before .before .before .before .put-line .ensures)) (c .before .before .write-text .ensures)
+unfolding writtenLine written
+returns-2 c =
+    let put = c .before .before .before .before .before .before .before in
+    let is-sound = sym (put .before .before .before .is-sound .ensures) ∙ not-false _ (put .before .before .if1 .left) in
+    rw (is-sound, ← read-text _ 85 refl (put .put-line .ensures)) (c .before .before .write .ensures)
 
 pub write-line-spec : {M : Type 1} → statement M
 write-line-spec =
@@ -55,9 +63,9 @@ write-line-spec =
     returns
     slice-aggregate-put-line
     put-line-requires
-    sub-write-text
-    part-write-text-start
-    part-write-text-end
-    write-text-requires
+    sub-write
+    part-write-start
+    part-write-end
+    write-requires
     same-length
     returns-2)

@@ -1,5 +1,5 @@
 -- `listing::write_total` meets its contract: judged 9, and then the total line in the first bytes of the room.
--- Why: what was put together up to the end of the array is the line, and it is written as a text.
+-- Why: what was put together up to the end of the array is the line, and it is written at once.
 use mathlib.Core.Path.{refl}
 use Rattle.listing.specs.Writing.{writtenTotal}
 use Rattle.listing.proofs.Assembled.{read-text}
@@ -9,7 +9,7 @@ use Rattle.listing.proofs.writing.write_total.Tie as tie
 use Rattle.listing.proofs.writing.write_total.Reads as reads
 use Rattle.listing.proofs.writing.write_total.Lts as lts
 use Rattle.listing.proofs.writing.put_total.Reads as put-total-reads
-use Rattle.listing.proofs.writing.write_text.Reads as write-text-reads
+use Rattle.room.proofs.write.Reads as write-reads
 
 slice-aggregate-put-total : tie.Need-slice-aggregate-put-total
 slice-aggregate-put-total c = search needs
@@ -17,24 +17,24 @@ slice-aggregate-put-total c = search needs
 put-total-requires : tie.Need-put-total-requires
 put-total-requires c κs = search needs
 
-sub-write-text : tie.Need-sub-write-text
-sub-write-text c = search needs
+sub-write : tie.Need-sub-write
+sub-write c = search needs
 
-part-write-text-start : tie.Need-part-write-text-start
-part-write-text-start c = search needs
+part-write-start : tie.Need-part-write-start
+part-write-start c = search needs
 
-part-write-text-end : tie.Need-part-write-text-end
-part-write-text-end c = search needs
+part-write-end : tie.Need-part-write-end
+part-write-end c = search needs
 
-write-text-requires : tie.Need-write-text-requires
-write-text-requires c κs = search needs
+write-requires : tie.Need-write-requires
+write-requires c κs = search needs
 
 same-length : tie.Need-same-length
 same-length c = search needs
 
 returns : tie.Need-returns
 unfolding writtenTotal
-returns c = rw (read-text _ 85 refl (c .before .before .before .before .before .before .before .put-total .ensures)) at (c .before .before .write-text .ensures)
+returns c = rw (read-text _ 85 refl (c .before .before .before .before .before .before .before .put-total .ensures)) at (c .before .before .write .ensures)
 
 pub write-total-spec : {M : Type 1} → statement M
 write-total-spec =
@@ -42,9 +42,9 @@ write-total-spec =
     (tie.spec
     slice-aggregate-put-total
     put-total-requires
-    sub-write-text
-    part-write-text-start
-    part-write-text-end
-    write-text-requires
+    sub-write
+    part-write-start
+    part-write-end
+    write-requires
     same-length
     returns)

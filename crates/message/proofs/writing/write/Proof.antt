@@ -2,7 +2,9 @@
 -- Why: what is judged before the frame writer is called stands before it in the paper's order, and it judges the rest.
 use mathlib.Core.Path.{_∙_, sym}
 use borrow.Author.Tests.{not-true, not-false}
-use Rattle.message.proofs.Order.{illegal-leaves, untold-leaves, told-leaves}
+use Rattle.room.proofs.Leaving.{refused-leaves}
+use Rattle.message.specs.Writing.{judgedMessageWrite, writtenMessage}
+use Rattle.message.proofs.Order.{untold-leaves, told-leaves}
 use borrow.Author.Needs.{needs}
 use Rattle.message.proofs.writing.write.Statement.{statement}
 use Rattle.message.proofs.writing.write.Tie as tie
@@ -20,7 +22,8 @@ refused-write-requires : tie.Need-refused-write-requires
 refused-write-requires c κs = search needs
 
 returns : tie.Need-returns
-returns c = illegal-leaves _ _ _ _ _ (sym (c .before .before .legal .ensures) ∙ not-true _ (c .before .if1 .taken)) (c .refused-write .ensures)
+unfolding writtenMessage judgedMessageWrite
+returns c = rw (sym (c .before .before .legal .ensures) ∙ not-true _ (c .before .if1 .taken)) (refused-leaves (c .refused-write .ensures))
 
 tell-requires : tie.Need-tell-requires
 tell-requires c κs = search needs
