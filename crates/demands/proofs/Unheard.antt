@@ -2,7 +2,7 @@
 -- is one does, with its own four bytes. Why: a record's kind is asked ahead of its bytes, and what crosses without a weight has no digits.
 use Prim.Native.Nat.{ℕ, _/_, _<_}
 use mathlib.Core.Path.{_≡_, _∙_, refl, sym}
-use mathlib.Core.Bool.{Bool, true, false, cond, _||_, and-eq-true-iff}
+use mathlib.Core.Bool.{Bool, true, false, cond, and-eq-true-iff}
 use mathlib.Core.List.{List}
 use native.Mathlib.Omega.{arith}
 use borrow.Author.Tests.{ne-eqb, eqb-true}
@@ -39,7 +39,6 @@ use Rattle.weighing_log.specs.declared.hearing.Noted.{Noted}
 use Rattle.weighing_log.specs.declared.hearing.Noted.the-variants as noted-as
 use Rattle.records.specs.Stepping.{stepped}
 use Rattle.weighing_log.specs.Hearing.{notedHeard}
-use Rattle.line.specs.declared.places.Event.{Event}
 use Rattle.line.specs.Readers.{heardAs}
 use Rattle.crossing.specs.declared.events.Given.{Given}
 use Rattle.crossing.specs.declared.events.Given.the-variants as given-as
@@ -51,9 +50,8 @@ use Rattle.crossing.specs.Events.{eventFrom}
 use Rattle.crossing.specs.Roles.{roleFrom}
 use Rattle.quay_weight.specs.Weights.{weightIn, valueOut, differenceRead}
 use Rattle.quay_message.specs.Messages.{whatOut, receivedOut, messageIn}
-use Rattle.quay_log.specs.declared.logs.QuayRecord.{QuayRecord}
 use Rattle.quay_log.specs.Records.{noDigits, recordOut, noRecord, readOut, steppedOut, notedOut, recordHeard}
-use Rattle.demands.specs.Unheard.{NotesNoWeight, NotesItsWeight, NoWeight, WeightOf, handedOn, HandsOnNoWeight, HandsOnItsBytes, saysWeight, SaysItsWeight, NeverAWeight, AlwaysItsWeight}
+use Rattle.demands.specs.Unheard.{NotesNoWeight, NotesItsWeight, NoWeight, WeightOf, HandsOnNoWeight, HandsOnItsBytes, saysWeight, SaysItsWeight, NeverAWeight, AlwaysItsWeight}
 use Rattle.demands.proofs.WrittenDown.{said-legal}
 
 -- ---- the weight that a record notes

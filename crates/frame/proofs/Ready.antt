@@ -1,7 +1,7 @@
 -- Shown: once a body was made ready, or refused, the verdict of frame writing is that of the paper's order 5, 2, 9.
 -- Why: the verdict on the fields decides the rest, and a body made ready is the one the frame is defined by.
 use Prim.Native.Nat.{ℕ, _+_, _≤_, _<_}
-use mathlib.Core.Path.{_≡_, _∙_, refl, sym, ap}
+use mathlib.Core.Path.{_≡_, _∙_, sym, ap}
 use mathlib.Core.Bool.{Bool, true, false, not}
 use mathlib.Core.List.{List}
 use native.Mathlib.Omega.{arith}

@@ -1,6 +1,6 @@
 -- Shown: the pieces of a line, put ahead of each other from its end on, are the line; and it is there to be read.
 -- Why: pieces ahead of each other are one piece, and each is what the definition names next.
-use Prim.Native.Nat.{ℕ, _+_, _-_, _≤_}
+use Prim.Native.Nat.{ℕ, _-_, _≤_}
 use mathlib.Core.Path.{_≡_, _∙_, ap}
 use mathlib.Core.List.{List, _++_, append-assoc, append-nil}
 use native.Mathlib.Omega.{arith}

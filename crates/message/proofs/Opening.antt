@@ -19,7 +19,6 @@ use Rattle.body.proofs.Shortness.{address-inside, told-not-short}
 use Rattle.codes.specs.declared.table.Role.{Role}
 use Rattle.meaning.specs.declared.meaning.What.{What}
 use Rattle.meaning.specs.declared.meaning.Told.the-variants as told-as
-use Rattle.message.specs.declared.reading.Message.{Message}
 use Rattle.message.specs.declared.reading.Received.the-variants as received-as
 use Rattle.meaning.specs.Judging.{judgedMessage, told}
 use Rattle.message.specs.Reading.{messageOf, readIf}

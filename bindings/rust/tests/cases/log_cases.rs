@@ -112,7 +112,7 @@ fn crossing(own: Result<Option<Record>, Refusal>) -> raw::QuayRecord {
         }
         Noted::Refused(why) => {
             let status = why.number();
-            raw::QuayRecord { time, serial: 0, kind: 3, address: 0, status, w0: 0, w1: 0, w2: 0, refusal: 0 }
+            raw::QuayRecord { time, serial: 0, kind: 3, address: 0, status, w0: 255, w1: 255, w2: 255, refusal: 0 }
         }
     }
 }

@@ -95,13 +95,17 @@ fn tell_message(message: raw::QuayMessage) -> String {
     told.bytes(&weight).number(what.from).number(what.to).told()
 }
 
+/// What is not said is all ones.
+const NO_NUMBER: u64 = u64::MAX;
+const NO_COUNT: u32 = u32::MAX;
+
 fn plain(says: u8, number: u64) -> raw::QuayWhat {
     let weight = raw::QuayWeight { w0: 255, w1: 255, w2: 255, con: 255 };
-    raw::QuayWhat { number, from: 0, to: 0, on: 0, weight, load: 0, says }
+    raw::QuayWhat { number, from: 0, to: 0, on: NO_COUNT, weight, load: 0, says }
 }
 
 fn no_message(refusal: u8) -> raw::QuayMessage {
-    raw::QuayMessage { what: plain(0, 0), from: 0, to: 0, serial: 0, short: 0, code: 0, refusal }
+    raw::QuayMessage { what: plain(0, NO_NUMBER), from: 0, to: 0, serial: 0, short: 0, code: 0, refusal }
 }
 
 /// What the crate says, taken back to the raw fields: nothing of them may be lost.
@@ -113,14 +117,14 @@ fn own_message(message: Message<'_>, body: &[u8]) -> raw::QuayMessage {
 
 fn own_what(says: Says<'_>, body: &[u8]) -> raw::QuayWhat {
     match says {
-        Says::Nothing => plain(0, 0),
+        Says::Nothing => plain(0, NO_NUMBER),
         Says::Serial(serial) => plain(1, u64::from(serial)),
         Says::Number(number) => plain(2, u64::from(number)),
         Says::Status(status) => plain(3, u64::from(status)),
         Says::Weight { load, weight } => {
             let [w0, w1, w2, con] = weight.0;
             let weight = raw::QuayWeight { w0, w1, w2, con };
-            raw::QuayWhat { weight, load: load_number(load), ..plain(4, 0) }
+            raw::QuayWhat { weight, load: load_number(load), ..plain(4, NO_NUMBER) }
         }
         Says::Inputs { bits, on } => raw::QuayWhat { on, ..plain(5, u64::from(bits)) },
         Says::Outputs(bits) => plain(6, u64::from(bits)),

@@ -18,7 +18,7 @@ pub fn read_weight(words: &mut Words<'_>) -> Result<Told, Malformed> {
             let marks = [reading.minus, reading.bit6, reading.bit5, reading.settled, reading.overload];
             tell_reading(0, reading.number, reading.point, marks.map(u8::from))
         }
-        Err(why) => tell_reading(why.number(), u32::MAX, 255, [255; 5]),
+        Err(why) => tell_reading(why.number(), u32::MAX, 0, [255; 5]),
     };
     Ok(Told { raw, crate_own: Some(crate_own) })
 }

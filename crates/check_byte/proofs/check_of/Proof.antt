@@ -4,10 +4,6 @@ use Rattle.check_byte.specs.Register.{checkOf}
 use borrow.Author.Needs.{needs}
 use Rattle.check_byte.proofs.check_of.Statement.{statement}
 use Rattle.check_byte.proofs.check_of.Tie as tie
-use Rattle.check_byte.proofs.check_of.Reads as reads
-use Rattle.check_byte.proofs.check_of.Lts as lts
-use Rattle.check_byte.proofs.feed.Reads as feed-reads
-use Rattle.check_byte.proofs.feed_all.Reads as feed-all-reads
 
 feed-all-requires : tie.Need-feed-all-requires
 feed-all-requires c κs = search needs

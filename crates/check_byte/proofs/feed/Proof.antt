@@ -7,11 +7,6 @@ use native.Mathlib.Nat.{not-suc-le-zero}
 use Rattle.check_byte.specs.Register.{shiftIn, feedBits, feedByte}
 use Rattle.check_byte.proofs.feed.Statement.{statement}
 use Rattle.check_byte.proofs.feed.Tie as tie
-use Rattle.check_byte.proofs.feed.Reads as reads
-use Rattle.check_byte.proofs.feed.Lts as lts
-use Rattle.check_byte.proofs.bit_at.Reads as bit-at-reads
-use Rattle.check_byte.proofs.shift_in.Reads as shift-in-reads
-use Rattle.check_byte.proofs.wide.Reads as wide-reads
 
 -- the next bit enters, and one fewer is left
 one-more : (left fed byte : ℕ) → 0 < left → feedBits (left - 1) (shiftIn fed (byte / 2 ^ (left - 1) % 2)) byte ≡ feedBits left fed byte

@@ -10,9 +10,6 @@ use lib.Seq.{drop-cons}
 use Rattle.check_byte.specs.Register.{feedByte, feedAll}
 use Rattle.check_byte.proofs.feed_all.Statement.{statement}
 use Rattle.check_byte.proofs.feed_all.Tie as tie
-use Rattle.check_byte.proofs.feed_all.Reads as reads
-use Rattle.check_byte.proofs.feed_all.Lts as lts
-use Rattle.check_byte.proofs.feed.Reads as feed-reads
 
 -- the next byte enters, and one fewer is left
 one-more : (bytes : List ℕ) (fed i : ℕ) → i < length bytes → feedAll (feedByte fed (getD bytes i 0)) (drop (i + 1) bytes) ≡ feedAll fed (drop i bytes)

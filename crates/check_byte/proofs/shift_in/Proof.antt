@@ -4,8 +4,6 @@ use Rattle.check_byte.proofs.Ninth.{stays, folds, eight}
 use borrow.Author.Needs.{needs}
 use Rattle.check_byte.proofs.shift_in.Statement.{statement}
 use Rattle.check_byte.proofs.shift_in.Tie as tie
-use Rattle.check_byte.proofs.shift_in.Reads as reads
-use Rattle.check_byte.proofs.shift_in.Lts as lts
 
 mul-shifted : tie.Need-mul-shifted
 mul-shifted c = search needs

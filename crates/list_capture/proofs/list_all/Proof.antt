@@ -5,10 +5,6 @@ use borrow.Author.Needs.{needs}
 use lib.ListN.{length}
 use Rattle.list_capture.proofs.list_all.Statement.{statement}
 use Rattle.list_capture.proofs.list_all.Tie as tie
-use Rattle.list_capture.proofs.list_all.Reads as reads
-use Rattle.list_capture.proofs.list_all.Lts as lts
-use Rattle.list_capture.proofs.list_some.Reads as list-some-reads
-use Rattle.list_capture.proofs.telling.fresh.Reads as fresh-reads
 
 abbrev Inv-loop : tie.InvT-loop
 Inv-loop capture name block₀ page₀ run₀ turns₀ block page run turns = (length block ≡ length block₀) × (length page ≡ length page₀)

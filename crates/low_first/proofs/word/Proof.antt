@@ -5,8 +5,6 @@ use Rattle.low_first.specs.LowFirst.{lowFirst}
 use borrow.Author.Needs.{needs}
 use Rattle.low_first.proofs.word.Statement.{statement}
 use Rattle.low_first.proofs.word.Tie as tie
-use Rattle.low_first.proofs.word.Reads as reads
-use Rattle.low_first.proofs.word.Lts as lts
 
 mul-low : tie.Need-mul-low
 mul-low c = search needs

@@ -4,8 +4,6 @@ use borrow.Author.Tests.{ne-eqb}
 use Rattle.refusal.specs.Numbers.{namedOf, namedIn}
 use Rattle.refusal.proofs.of_number.Statement.{statement}
 use Rattle.refusal.proofs.of_number.Tie as tie
-use Rattle.refusal.proofs.of_number.Reads as reads
-use Rattle.refusal.proofs.of_number.Lts as lts
 
 returns : tie.Need-returns
 unfolding namedOf namedIn

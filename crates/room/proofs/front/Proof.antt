@@ -9,8 +9,6 @@ use lib.Seq.{take-all}
 use borrow.Author.Needs.{needs}
 use Rattle.room.proofs.front.Statement.{statement}
 use Rattle.room.proofs.front.Tie as tie
-use Rattle.room.proofs.front.Reads as reads
-use Rattle.room.proofs.front.Lts as lts
 
 sub-result : tie.Need-sub-result
 sub-result c = search needs

@@ -5,9 +5,6 @@ use Rattle.room.proofs.Over.{unlaid, part-laid}
 use borrow.Author.Needs.{needs}
 use Rattle.room.proofs.lay.Statement.{statement}
 use Rattle.room.proofs.lay.Tie as tie
-use Rattle.room.proofs.lay.Reads as reads
-use Rattle.room.proofs.lay.Lts as lts
-use Rattle.bytes.proofs.copy.Reads as copy-reads
 
 returns : tie.Need-returns
 returns c = unlaid _ _ _ (omega arith)

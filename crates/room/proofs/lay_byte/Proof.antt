@@ -5,8 +5,6 @@ use Rattle.room.proofs.Over.{unlaid, set-laid}
 use borrow.Author.Needs.{needs}
 use Rattle.room.proofs.lay_byte.Statement.{statement}
 use Rattle.room.proofs.lay_byte.Tie as tie
-use Rattle.room.proofs.lay_byte.Reads as reads
-use Rattle.room.proofs.lay_byte.Lts as lts
 
 returns : tie.Need-returns
 returns c = unlaid _ _ _ (omega arith)

@@ -12,9 +12,6 @@ use Rattle.room.proofs.Over.{unlaid, laid-none, laid-length, low-laid}
 use borrow.Author.Needs.{needs}
 use Rattle.room.proofs.lay_low.Statement.{statement}
 use Rattle.room.proofs.lay_low.Tie as tie
-use Rattle.room.proofs.lay_low.Reads as reads
-use Rattle.room.proofs.lay_low.Lts as lts
-use Rattle.room.proofs.lay_byte.Reads as lay-byte-reads
 
 abbrev Inv-loop : tie.InvT-loop
 Inv-loop number count room₀ at left₀ next₀ i₀ room left next i =

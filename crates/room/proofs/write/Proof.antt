@@ -6,10 +6,6 @@ use Rattle.room.proofs.Leaving.{refused-leaves, good-leaves}
 use borrow.Author.Needs.{needs}
 use Rattle.room.proofs.write.Statement.{statement}
 use Rattle.room.proofs.write.Tie as tie
-use Rattle.room.proofs.write.Reads as reads
-use Rattle.room.proofs.write.Lts as lts
-use Rattle.room.proofs.lay.Reads as lay-reads
-use Rattle.room.proofs.refused_write.Reads as refused-write-reads
 
 refused-write-requires : tie.Need-refused-write-requires
 refused-write-requires c κs = search needs

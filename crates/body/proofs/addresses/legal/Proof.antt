@@ -5,8 +5,6 @@ use Rattle.body.specs.Addresses.{legal}
 use borrow.Author.Needs.{needs}
 use Rattle.body.proofs.addresses.legal.Statement.{statement}
 use Rattle.body.proofs.addresses.legal.Tie as tie
-use Rattle.body.proofs.addresses.legal.Reads as reads
-use Rattle.body.proofs.addresses.legal.Lts as lts
 
 enum-known-address : tie.Need-enum-known-address
 enum-known-address c = search needs

@@ -8,9 +8,6 @@ use Rattle.body.proofs.Shortness.{three, six}
 use borrow.Author.Needs.{needs}
 use Rattle.body.proofs.bodies.address_in.Statement.{statement}
 use Rattle.body.proofs.bodies.address_in.Tie as tie
-use Rattle.body.proofs.bodies.address_in.Reads as reads
-use Rattle.body.proofs.bodies.address_in.Lts as lts
-use Rattle.low_first.proofs.word.Reads as word-reads
 
 shared-slice-read-first : tie.Need-shared-slice-read-first
 shared-slice-read-first c = omega (arith, three _ (c .before .before .pre))

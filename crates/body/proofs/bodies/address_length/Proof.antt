@@ -4,8 +4,6 @@ use Rattle.body.specs.Addresses.{addressLength}
 use borrow.Author.Needs.{needs}
 use Rattle.body.proofs.bodies.address_length.Statement.{statement}
 use Rattle.body.proofs.bodies.address_length.Tie as tie
-use Rattle.body.proofs.bodies.address_length.Reads as reads
-use Rattle.body.proofs.bodies.address_length.Lts as lts
 
 enum-told : tie.Need-enum-told
 enum-told c = search needs

@@ -4,9 +4,6 @@ use Rattle.check_byte.specs.Register.{received}
 use borrow.Author.Needs.{needs}
 use Rattle.body.proofs.bodies.check_right.Statement.{statement}
 use Rattle.body.proofs.bodies.check_right.Tie as tie
-use Rattle.body.proofs.bodies.check_right.Reads as reads
-use Rattle.body.proofs.bodies.check_right.Lts as lts
-use Rattle.check_byte.proofs.feed_all.Reads as feed-all-reads
 
 feed-all-requires : tie.Need-feed-all-requires
 feed-all-requires c κs = search needs

@@ -5,8 +5,6 @@ use Rattle.body.specs.Body.{short}
 use borrow.Author.Needs.{needs}
 use Rattle.body.proofs.bodies.is_short.Statement.{statement}
 use Rattle.body.proofs.bodies.is_short.Tie as tie
-use Rattle.body.proofs.bodies.is_short.Reads as reads
-use Rattle.body.proofs.bodies.is_short.Lts as lts
 
 returns : tie.Need-returns
 unfolding short

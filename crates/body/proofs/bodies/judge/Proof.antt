@@ -4,10 +4,6 @@ use Rattle.body.specs.Body.{judgedLent}
 use borrow.Author.Needs.{needs}
 use Rattle.body.proofs.bodies.judge.Statement.{statement}
 use Rattle.body.proofs.bodies.judge.Tie as tie
-use Rattle.body.proofs.bodies.judge.Reads as reads
-use Rattle.body.proofs.bodies.judge.Lts as lts
-use Rattle.body.proofs.bodies.check_right.Reads as check-right-reads
-use Rattle.body.proofs.bodies.judge_told.Reads as judge-told-reads
 
 check-right-requires : tie.Need-check-right-requires
 check-right-requires c κs = search needs

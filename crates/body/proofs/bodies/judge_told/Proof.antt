@@ -5,11 +5,6 @@ use borrow.Author.Needs.{needs}
 use borrow.Author.Tests.{lt-ltb, le-ltb}
 use Rattle.body.proofs.bodies.judge_told.Statement.{statement}
 use Rattle.body.proofs.bodies.judge_told.Tie as tie
-use Rattle.body.proofs.bodies.judge_told.Reads as reads
-use Rattle.body.proofs.bodies.judge_told.Lts as lts
-use Rattle.body.proofs.addresses.legal.Reads as legal-reads
-use Rattle.body.proofs.bodies.address_in.Reads as address-in-reads
-use Rattle.body.proofs.bodies.is_short.Reads as is-short-reads
 
 returns : tie.Need-returns
 returns c = rw (lt-ltb _ _ (c .if1 .taken))

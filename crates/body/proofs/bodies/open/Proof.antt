@@ -3,10 +3,6 @@
 use borrow.Author.Needs.{needs}
 use Rattle.body.proofs.bodies.open.Statement.{statement}
 use Rattle.body.proofs.bodies.open.Tie as tie
-use Rattle.body.proofs.bodies.open.Reads as reads
-use Rattle.body.proofs.bodies.open.Lts as lts
-use Rattle.body.proofs.bodies.check_right.Reads as check-right-reads
-use Rattle.body.proofs.bodies.open_without_check.Reads as open-without-check-reads
 
 check-right-requires : tie.Need-check-right-requires
 check-right-requires c κs = search needs

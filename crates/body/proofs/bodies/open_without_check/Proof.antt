@@ -6,10 +6,6 @@ use Rattle.body.specs.Body.{openedIf}
 use borrow.Author.Needs.{needs}
 use Rattle.body.proofs.bodies.open_without_check.Statement.{statement}
 use Rattle.body.proofs.bodies.open_without_check.Tie as tie
-use Rattle.body.proofs.bodies.open_without_check.Reads as reads
-use Rattle.body.proofs.bodies.open_without_check.Lts as lts
-use Rattle.body.proofs.bodies.judge_told.Reads as judge-told-reads
-use Rattle.body.proofs.bodies.parts_of.Reads as parts-of-reads
 
 judge-told-requires : tie.Need-judge-told-requires
 judge-told-requires c κs = search needs

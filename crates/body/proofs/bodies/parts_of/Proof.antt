@@ -6,10 +6,6 @@ use Rattle.body.proofs.Shortness.{three, address-inside}
 use borrow.Author.Needs.{needs}
 use Rattle.body.proofs.bodies.parts_of.Statement.{statement}
 use Rattle.body.proofs.bodies.parts_of.Tie as tie
-use Rattle.body.proofs.bodies.parts_of.Reads as reads
-use Rattle.body.proofs.bodies.parts_of.Lts as lts
-use Rattle.body.proofs.bodies.address_in.Reads as address-in-reads
-use Rattle.body.proofs.bodies.address_length.Reads as address-length-reads
 
 address-in-requires : tie.Need-address-in-requires
 address-in-requires c κs = search needs

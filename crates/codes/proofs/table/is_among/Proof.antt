@@ -3,8 +3,6 @@
 use borrow.Author.Needs.{needs}
 use Rattle.codes.proofs.table.is_among.Statement.{statement}
 use Rattle.codes.proofs.table.is_among.Tie as tie
-use Rattle.codes.proofs.table.is_among.Reads as reads
-use Rattle.codes.proofs.table.is_among.Lts as lts
 
 enum-told : tie.Need-enum-told
 enum-told c = search needs

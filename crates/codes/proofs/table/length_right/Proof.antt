@@ -5,9 +5,6 @@ use borrow.Author.Tests.{lt-leb, le-leb}
 use borrow.Author.Needs.{needs}
 use Rattle.codes.proofs.table.length_right.Statement.{statement}
 use Rattle.codes.proofs.table.length_right.Tie as tie
-use Rattle.codes.proofs.table.length_right.Reads as reads
-use Rattle.codes.proofs.table.length_right.Lts as lts
-use Rattle.codes.proofs.table.length_of.Reads as length-of-reads
 
 length-of-requires : tie.Need-length-of-requires
 length-of-requires c κs = search needs

@@ -4,8 +4,6 @@ use borrow.Author.Tests.{ne-eqb}
 use Rattle.codes.specs.Table.{lineOf, lineIn}
 use Rattle.codes.proofs.table.line_of.Statement.{statement}
 use Rattle.codes.proofs.table.line_of.Tie as tie
-use Rattle.codes.proofs.table.line_of.Reads as reads
-use Rattle.codes.proofs.table.line_of.Lts as lts
 
 returns : tie.Need-returns
 unfolding lineOf lineIn

@@ -4,9 +4,6 @@ use Rattle.codes.specs.Table.{rowOf}
 use borrow.Author.Needs.{needs}
 use Rattle.codes.proofs.table.row_of.Statement.{statement}
 use Rattle.codes.proofs.table.row_of.Tie as tie
-use Rattle.codes.proofs.table.row_of.Reads as reads
-use Rattle.codes.proofs.table.row_of.Lts as lts
-use Rattle.codes.proofs.table.line_of.Reads as line-of-reads
 
 line-of-requires : tie.Need-line-of-requires
 line-of-requires c κs = search needs

@@ -5,11 +5,6 @@ use Rattle.crossing.specs.Events.{eventFrom}
 use borrow.Author.Needs.{needs}
 use Rattle.crossing.proofs.events.event_from.Statement.{statement}
 use Rattle.crossing.proofs.events.event_from.Tie as tie
-use Rattle.crossing.proofs.events.event_from.Reads as reads
-use Rattle.crossing.proofs.events.event_from.Lts as lts
-use Rattle.crossing.proofs.events.given_as.Reads as given-as-reads
-use Rattle.refusal.proofs.line_status.Reads as line-status-reads
-use Rattle.refusal.proofs.of_number.Reads as of-number-reads
 
 line-status-requires : tie.Need-line-status-requires
 line-status-requires c κs = search needs

@@ -3,8 +3,6 @@
 use borrow.Author.Needs.{needs}
 use Rattle.crossing.proofs.events.given_as.Statement.{statement}
 use Rattle.crossing.proofs.events.given_as.Tie as tie
-use Rattle.crossing.proofs.events.given_as.Reads as reads
-use Rattle.crossing.proofs.events.given_as.Lts as lts
 
 enum-known-named : tie.Need-enum-known-named
 enum-known-named c = search needs

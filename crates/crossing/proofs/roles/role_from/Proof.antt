@@ -4,8 +4,6 @@ use borrow.Author.Tests.{ne-eqb}
 use Rattle.crossing.specs.Roles.{roleFrom}
 use Rattle.crossing.proofs.roles.role_from.Statement.{statement}
 use Rattle.crossing.proofs.roles.role_from.Tie as tie
-use Rattle.crossing.proofs.roles.role_from.Reads as reads
-use Rattle.crossing.proofs.roles.role_from.Lts as lts
 
 returns : tie.Need-returns
 unfolding roleFrom

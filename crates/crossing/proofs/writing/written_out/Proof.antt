@@ -3,9 +3,6 @@
 use borrow.Author.Needs.{needs}
 use Rattle.crossing.proofs.writing.written_out.Statement.{statement}
 use Rattle.crossing.proofs.writing.written_out.Tie as tie
-use Rattle.crossing.proofs.writing.written_out.Reads as reads
-use Rattle.crossing.proofs.writing.written_out.Lts as lts
-use Rattle.crossing.proofs.writing.verdict_number.Reads as verdict-number-reads
 
 verdict-number-requires : tie.Need-verdict-number-requires
 verdict-number-requires c κs = search needs

@@ -3,9 +3,6 @@
 use borrow.Author.Needs.{needs}
 use Rattle.entries.proofs.entries.entry_of.Statement.{statement}
 use Rattle.entries.proofs.entries.entry_of.Tie as tie
-use Rattle.entries.proofs.entries.entry_of.Reads as reads
-use Rattle.entries.proofs.entries.entry_of.Lts as lts
-use Rattle.entries.proofs.entries.message_entry.Reads as message-entry-reads
 
 enum-known-received : tie.Need-enum-known-received
 enum-known-received c = search needs

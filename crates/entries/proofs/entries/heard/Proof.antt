@@ -7,12 +7,6 @@ use borrow.Author.Needs.{needs}
 use borrow.Author.Needs.{needs}
 use Rattle.entries.proofs.entries.heard.Statement.{statement}
 use Rattle.entries.proofs.entries.heard.Tie as tie
-use Rattle.entries.proofs.entries.heard.Reads as reads
-use Rattle.entries.proofs.entries.heard.Lts as lts
-use Rattle.entries.proofs.entries.entry_of.Reads as entry-of-reads
-use Rattle.entries.proofs.entries.heard_without_check.Reads as heard-without-check-reads
-use Rattle.message.proofs.read.Reads as read-reads
-use Rattle.room.proofs.front.Reads as front-reads
 
 enum-known-event : tie.Need-enum-known-event
 enum-known-event c = search needs

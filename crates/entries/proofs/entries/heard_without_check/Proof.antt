@@ -5,11 +5,6 @@ use borrow.Author.Needs.{needs}
 use borrow.Author.Needs.{needs}
 use Rattle.entries.proofs.entries.heard_without_check.Statement.{statement}
 use Rattle.entries.proofs.entries.heard_without_check.Tie as tie
-use Rattle.entries.proofs.entries.heard_without_check.Reads as reads
-use Rattle.entries.proofs.entries.heard_without_check.Lts as lts
-use Rattle.entries.proofs.entries.entry_of.Reads as entry-of-reads
-use Rattle.message.proofs.read_without_check.Reads as read-without-check-reads
-use Rattle.room.proofs.front.Reads as front-reads
 
 enum-told : tie.Need-enum-told
 enum-told c = search needs

@@ -4,8 +4,6 @@ use Rattle.entries.proofs.Listed.{no-weight}
 use borrow.Author.Needs.{needs}
 use Rattle.entries.proofs.entries.message_entry.Statement.{statement}
 use Rattle.entries.proofs.entries.message_entry.Tie as tie
-use Rattle.entries.proofs.entries.message_entry.Reads as reads
-use Rattle.entries.proofs.entries.message_entry.Lts as lts
 
 enum-known-what : tie.Need-enum-known-what
 enum-known-what c = search needs

@@ -10,11 +10,6 @@ use Rattle.frame.proofs.Pieces.{body-laid, unchecked-fits}
 use borrow.Author.Needs.{needs}
 use Rattle.frame.proofs.writing.assemble.Statement.{statement}
 use Rattle.frame.proofs.writing.assemble.Tie as tie
-use Rattle.frame.proofs.writing.assemble.Reads as reads
-use Rattle.frame.proofs.writing.assemble.Lts as lts
-use Rattle.check_byte.proofs.check_of.Reads as check-of-reads
-use Rattle.frame.proofs.writing.put_unchecked.Reads as put-unchecked-reads
-use Rattle.room.proofs.lay_byte.Reads as lay-byte-reads
 
 put-unchecked-requires : tie.Need-put-unchecked-requires
 put-unchecked-requires c κs = unchecked-fits _ _ _ (c .before .before .before .pre)

@@ -14,8 +14,6 @@ use lib.ListN.{length, drop, getD, drop-of-length-le}
 use Rattle.frame.specs.Stuffing.{countFF}
 use Rattle.frame.proofs.writing.count_ff.Statement.{statement}
 use Rattle.frame.proofs.writing.count_ff.Tie as tie
-use Rattle.frame.proofs.writing.count_ff.Reads as reads
-use Rattle.frame.proofs.writing.count_ff.Lts as lts
 
 -- the next byte counts where it is FF
 count-next : (body : List ℕ) (i : ℕ) → i < length body → countFF (drop i body) ≡ cond (eqb (getD body i 0) 0xFF) 1 0 + countFF (drop (i + 1) body)

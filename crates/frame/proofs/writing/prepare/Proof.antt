@@ -16,12 +16,6 @@ use Rattle.frame.proofs.Ready.{illegal-prepared, long-prepared, ready-p
 use borrow.Author.Needs.{needs}
 use Rattle.frame.proofs.writing.prepare.Statement.{statement}
 use Rattle.frame.proofs.writing.prepare.Tie as tie
-use Rattle.frame.proofs.writing.prepare.Reads as reads
-use Rattle.frame.proofs.writing.prepare.Lts as lts
-use Rattle.body.proofs.legal.Reads as legal-reads
-use Rattle.frame.proofs.writing.assemble.Reads as assemble-reads
-use Rattle.frame.proofs.writing.body_length.Reads as body-length-reads
-use Rattle.frame.proofs.writing.count_ff.Reads as count-ff-reads
 
 -- behind the first test the address is legal, behind the second the body has at most 255 bytes
 is-legal : (c : tie.After-body-length) → legal (c .before .before .before .before .before .args .address) ≡ true

@@ -5,9 +5,6 @@ use Rattle.frame.proofs.Pieces.{plain-laid, ff-laid}
 use borrow.Author.Needs.{needs}
 use Rattle.frame.proofs.writing.put.Statement.{statement}
 use Rattle.frame.proofs.writing.put.Tie as tie
-use Rattle.frame.proofs.writing.put.Reads as reads
-use Rattle.frame.proofs.writing.put.Lts as lts
-use Rattle.room.proofs.lay_byte.Reads as lay-byte-reads
 
 lay-byte-requires : tie.Need-lay-byte-requires
 lay-byte-requires c κs = search needs

@@ -6,10 +6,6 @@ use Rattle.body.specs.Addresses.{addressBytes}
 use borrow.Author.Needs.{needs}
 use Rattle.frame.proofs.writing.put_address.Statement.{statement}
 use Rattle.frame.proofs.writing.put_address.Tie as tie
-use Rattle.frame.proofs.writing.put_address.Reads as reads
-use Rattle.frame.proofs.writing.put_address.Lts as lts
-use Rattle.room.proofs.lay_byte.Reads as lay-byte-reads
-use Rattle.room.proofs.lay_low.Reads as lay-low-reads
 
 enum-known-address : tie.Need-enum-known-address
 enum-known-address c = search needs

@@ -10,9 +10,6 @@ use Rattle.frame.specs.Stuffing.{stuffed}
 use Rattle.frame.proofs.Pieces.{next-fits, next-laid}
 use Rattle.frame.proofs.writing.put_body.Statement.{statement}
 use Rattle.frame.proofs.writing.put_body.Tie as tie
-use Rattle.frame.proofs.writing.put_body.Reads as reads
-use Rattle.frame.proofs.writing.put_body.Lts as lts
-use Rattle.frame.proofs.writing.put.Reads as put-reads
 
 abbrev Inv-loop : tie.InvT-loop
 Inv-loop body room₀ at next₀ i₀ room next i = (i ≤ length body) × Laid at (stuffed (take i body)) room₀ next room

@@ -4,10 +4,6 @@ use Rattle.frame.proofs.Pieces.{body-fits, frame-laid}
 use borrow.Author.Needs.{needs}
 use Rattle.frame.proofs.writing.put_frame.Statement.{statement}
 use Rattle.frame.proofs.writing.put_frame.Tie as tie
-use Rattle.frame.proofs.writing.put_frame.Reads as reads
-use Rattle.frame.proofs.writing.put_frame.Lts as lts
-use Rattle.frame.proofs.writing.put_body.Reads as put-body-reads
-use Rattle.room.proofs.lay_byte.Reads as lay-byte-reads
 
 lay-byte-requires : tie.Need-lay-byte-requires
 lay-byte-requires c κs = search needs

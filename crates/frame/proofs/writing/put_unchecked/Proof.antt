@@ -7,11 +7,6 @@ use Rattle.frame.proofs.Pieces.{unchecked-laid}
 use borrow.Author.Needs.{needs}
 use Rattle.frame.proofs.writing.put_unchecked.Statement.{statement}
 use Rattle.frame.proofs.writing.put_unchecked.Tie as tie
-use Rattle.frame.proofs.writing.put_unchecked.Reads as reads
-use Rattle.frame.proofs.writing.put_unchecked.Lts as lts
-use Rattle.frame.proofs.writing.put_address.Reads as put-address-reads
-use Rattle.room.proofs.lay.Reads as lay-reads
-use Rattle.room.proofs.lay_byte.Reads as lay-byte-reads
 
 put-address-requires : tie.Need-put-address-requires
 unfolding unchecked

@@ -17,12 +17,6 @@ use Rattle.frame.proofs.Ready.{fields-refused, room-left, bytes-good, g
 use borrow.Author.Needs.{needs}
 use Rattle.frame.proofs.writing.write.Statement.{statement}
 use Rattle.frame.proofs.writing.write.Tie as tie
-use Rattle.frame.proofs.writing.write.Reads as reads
-use Rattle.frame.proofs.writing.write.Lts as lts
-use Rattle.frame.proofs.writing.body_length.Reads as body-length-reads
-use Rattle.frame.proofs.writing.prepare.Reads as prepare-reads
-use Rattle.frame.proofs.writing.put_frame.Reads as put-frame-reads
-use Rattle.room.proofs.refused_write.Reads as refused-write-reads
 
 -- where the answer is a number of bytes, the body was made ready, and what is put is that body
 ready : (c : tie.After-body-length) → Prepared (c .before .before .before .before .before .before .before .before .before .args .address) (c .before .before .before .before .before .before .before .before .before .args .code) (c .before .before .before .before .before .before .before .before .before .args .«data» .now) (replicate 255 0) (Bytes (c .before .before .needed .given .0 .0)) (c .before .before .before .before .before .prepare .last .1 .1 .1 .0)

@@ -6,9 +6,6 @@ use native.Mathlib.Omega.{arith}
 use borrow.Author.Needs.{needs}
 use Rattle.line.proofs.places.end_body.Statement.{statement}
 use Rattle.line.proofs.places.end_body.Tie as tie
-use Rattle.line.proofs.places.end_body.Reads as reads
-use Rattle.line.proofs.places.end_body.Lts as lts
-use Rattle.body.proofs.judge.Reads as judge-reads
 
 sub-judge : tie.Need-sub-judge
 sub-judge c = search needs

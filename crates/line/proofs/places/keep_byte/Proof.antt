@@ -5,10 +5,6 @@ use Rattle.line.proofs.Keeping.{one-more, too-many}
 use borrow.Author.Needs.{needs}
 use Rattle.line.proofs.places.keep_byte.Statement.{statement}
 use Rattle.line.proofs.places.keep_byte.Tie as tie
-use Rattle.line.proofs.places.keep_byte.Reads as reads
-use Rattle.line.proofs.places.keep_byte.Lts as lts
-use Rattle.line.proofs.places.quiet.Reads as quiet-reads
-use Rattle.line.proofs.places.refuse.Reads as refuse-reads
 
 refuse-requires : tie.Need-refuse-requires
 refuse-requires c κs = search needs

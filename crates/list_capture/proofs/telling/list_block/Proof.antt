@@ -7,12 +7,6 @@ use borrow.Author.Needs.{needs}
 use lib.ListN.{length, length-take, length-drop}
 use Rattle.list_capture.proofs.telling.list_block.Statement.{statement}
 use Rattle.list_capture.proofs.telling.list_block.Tie as tie
-use Rattle.list_capture.proofs.telling.list_block.Reads as reads
-use Rattle.list_capture.proofs.telling.list_block.Lts as lts
-use Rattle.line.proofs.places.Place.listen.Reads as listen-reads
-use Rattle.list_capture.proofs.telling.counted.Reads as counted-reads
-use Rattle.list_capture.proofs.telling.tell.Reads as tell-reads
-use Rattle.entries.proofs.heard_without_check.Reads as heard-without-check-reads
 
 abbrev Inv-loop : tie.InvT-loop
 Inv-loop block room₀ reader₀ place₀ page₀ counts₀ at₀ room reader place page counts at = (at ≤ length block) × ((length (reader .body) ≡ 255) × (length room ≡ length room₀))

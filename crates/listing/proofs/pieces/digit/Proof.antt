@@ -4,8 +4,6 @@ use borrow.Author.Tests.{lt-ltb, le-ltb}
 use borrow.Author.Needs.{needs}
 use Rattle.listing.proofs.pieces.digit.Statement.{statement}
 use Rattle.listing.proofs.pieces.digit.Tie as tie
-use Rattle.listing.proofs.pieces.digit.Reads as reads
-use Rattle.listing.proofs.pieces.digit.Lts as lts
 
 cast-result : tie.Need-cast-result
 cast-result c = search needs

@@ -4,9 +4,6 @@ use Rattle.listing.proofs.Putting.{laid-ahead}
 use borrow.Author.Needs.{needs}
 use Rattle.listing.proofs.pieces.put.Statement.{statement}
 use Rattle.listing.proofs.pieces.put.Tie as tie
-use Rattle.listing.proofs.pieces.put.Reads as reads
-use Rattle.listing.proofs.pieces.put.Lts as lts
-use Rattle.room.proofs.lay.Reads as lay-reads
 
 sub-place : tie.Need-sub-place
 sub-place c = search needs

@@ -4,10 +4,6 @@ use native.Mathlib.Omega.{arith}
 use borrow.Author.Needs.{needs}
 use Rattle.listing.proofs.pieces.put_address.Statement.{statement}
 use Rattle.listing.proofs.pieces.put_address.Tie as tie
-use Rattle.listing.proofs.pieces.put_address.Reads as reads
-use Rattle.listing.proofs.pieces.put_address.Lts as lts
-use Rattle.listing.proofs.pieces.put_counted.Reads as put-counted-reads
-use Rattle.listing.proofs.pieces.put_decimal.Reads as put-decimal-reads
 
 enum-known-address : tie.Need-enum-known-address
 enum-known-address c = search needs

@@ -3,10 +3,6 @@
 use borrow.Author.Needs.{needs}
 use Rattle.listing.proofs.pieces.put_code.Statement.{statement}
 use Rattle.listing.proofs.pieces.put_code.Tie as tie
-use Rattle.listing.proofs.pieces.put_code.Reads as reads
-use Rattle.listing.proofs.pieces.put_code.Lts as lts
-use Rattle.listing.proofs.pieces.digit.Reads as digit-reads
-use Rattle.listing.proofs.pieces.put.Reads as put-reads
 
 digit-requires : tie.Need-digit-requires
 digit-requires c κs = search needs

@@ -5,10 +5,6 @@ use Rattle.listing.proofs.Putting.{ahead-then}
 use borrow.Author.Needs.{needs}
 use Rattle.listing.proofs.pieces.put_counted.Statement.{statement}
 use Rattle.listing.proofs.pieces.put_counted.Tie as tie
-use Rattle.listing.proofs.pieces.put_counted.Reads as reads
-use Rattle.listing.proofs.pieces.put_counted.Lts as lts
-use Rattle.listing.proofs.pieces.put.Reads as put-reads
-use Rattle.listing.proofs.pieces.put_decimal.Reads as put-decimal-reads
 
 put-decimal-requires : tie.Need-put-decimal-requires
 put-decimal-requires c κs = search needs

@@ -4,9 +4,6 @@ use native.Mathlib.Omega.{arith}
 use Rattle.listing.proofs.Putting.{Spelling, spelling-starts, room-ahead, next-digit, last-digit}
 use Rattle.listing.proofs.pieces.put_decimal.Statement.{statement}
 use Rattle.listing.proofs.pieces.put_decimal.Tie as tie
-use Rattle.listing.proofs.pieces.put_decimal.Reads as reads
-use Rattle.listing.proofs.pieces.put_decimal.Lts as lts
-use Rattle.listing.proofs.pieces.digit.Reads as digit-reads
 
 abbrev Inv-loop : tie.InvT-loop
 Inv-loop number text₀ at place₀ left₀ text place left = Spelling number at text₀ left place text

@@ -3,11 +3,6 @@
 use borrow.Author.Needs.{needs}
 use Rattle.listing.proofs.pieces.put_digits.Statement.{statement}
 use Rattle.listing.proofs.pieces.put_digits.Tie as tie
-use Rattle.listing.proofs.pieces.put_digits.Reads as reads
-use Rattle.listing.proofs.pieces.put_digits.Lts as lts
-use Rattle.listing.proofs.pieces.digit.Reads as digit-reads
-use Rattle.listing.proofs.pieces.put.Reads as put-reads
-use Rattle.listing.proofs.pieces.sign_byte.Reads as sign-byte-reads
 
 sign-byte-requires : tie.Need-sign-byte-requires
 sign-byte-requires c κs = search needs

@@ -4,9 +4,6 @@ use native.Mathlib.Omega.{arith}
 use borrow.Author.Needs.{needs}
 use Rattle.listing.proofs.pieces.put_load.Statement.{statement}
 use Rattle.listing.proofs.pieces.put_load.Tie as tie
-use Rattle.listing.proofs.pieces.put_load.Reads as reads
-use Rattle.listing.proofs.pieces.put_load.Lts as lts
-use Rattle.listing.proofs.pieces.put.Reads as put-reads
 
 enum-told : tie.Need-enum-told
 enum-told c = search needs

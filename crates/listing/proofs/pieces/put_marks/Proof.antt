@@ -3,11 +3,6 @@
 use borrow.Author.Needs.{needs}
 use Rattle.listing.proofs.pieces.put_marks.Statement.{statement}
 use Rattle.listing.proofs.pieces.put_marks.Tie as tie
-use Rattle.listing.proofs.pieces.put_marks.Reads as reads
-use Rattle.listing.proofs.pieces.put_marks.Lts as lts
-use Rattle.listing.proofs.pieces.digit.Reads as digit-reads
-use Rattle.listing.proofs.pieces.mark_byte.Reads as mark-byte-reads
-use Rattle.listing.proofs.pieces.put.Reads as put-reads
 
 cast-digit : tie.Need-cast-digit
 cast-digit c = search needs

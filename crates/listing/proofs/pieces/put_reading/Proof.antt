@@ -4,10 +4,6 @@ use Rattle.listing.proofs.Putting.{ahead-then}
 use borrow.Author.Needs.{needs}
 use Rattle.listing.proofs.pieces.put_reading.Statement.{statement}
 use Rattle.listing.proofs.pieces.put_reading.Tie as tie
-use Rattle.listing.proofs.pieces.put_reading.Reads as reads
-use Rattle.listing.proofs.pieces.put_reading.Lts as lts
-use Rattle.listing.proofs.pieces.put_digits.Reads as put-digits-reads
-use Rattle.listing.proofs.pieces.put_marks.Reads as put-marks-reads
 
 put-marks-requires : tie.Need-put-marks-requires
 put-marks-requires c κs = search needs

@@ -3,11 +3,6 @@
 use borrow.Author.Needs.{needs}
 use Rattle.listing.proofs.writing.is_sound.Statement.{statement}
 use Rattle.listing.proofs.writing.is_sound.Tie as tie
-use Rattle.listing.proofs.writing.is_sound.Reads as reads
-use Rattle.listing.proofs.writing.is_sound.Lts as lts
-use Rattle.refusal.proofs.line_status.Reads as line-status-reads
-use Rattle.refusal.proofs.number.Reads as number-reads
-use Rattle.weight.proofs.in_range.Reads as in-range-reads
 
 enum-told : tie.Need-enum-told
 enum-told c = search needs

@@ -4,11 +4,6 @@ use Rattle.listing.proofs.Putting.{ahead-none}
 use borrow.Author.Needs.{needs}
 use Rattle.listing.proofs.writing.put_line.Statement.{statement}
 use Rattle.listing.proofs.writing.put_line.Tie as tie
-use Rattle.listing.proofs.writing.put_line.Reads as reads
-use Rattle.listing.proofs.writing.put_line.Lts as lts
-use Rattle.listing.proofs.writing.put_message.Reads as put-message-reads
-use Rattle.listing.proofs.writing.put_refused.Reads as put-refused-reads
-use Rattle.listing.proofs.writing.put_weight.Reads as put-weight-reads
 
 enum-told : tie.Need-enum-told
 enum-told c = search needs

@@ -4,12 +4,6 @@ use Rattle.listing.proofs.Putting.{ahead-then}
 use borrow.Author.Needs.{needs}
 use Rattle.listing.proofs.writing.put_message.Statement.{statement}
 use Rattle.listing.proofs.writing.put_message.Tie as tie
-use Rattle.listing.proofs.writing.put_message.Reads as reads
-use Rattle.listing.proofs.writing.put_message.Lts as lts
-use Rattle.listing.proofs.pieces.put.Reads as put-reads
-use Rattle.listing.proofs.pieces.put_address.Reads as put-address-reads
-use Rattle.listing.proofs.pieces.put_code.Reads as put-code-reads
-use Rattle.listing.proofs.pieces.put_decimal.Reads as put-decimal-reads
 
 put-code-requires : tie.Need-put-code-requires
 put-code-requires c κs = search needs

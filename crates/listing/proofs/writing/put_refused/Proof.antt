@@ -4,12 +4,6 @@ use Rattle.listing.proofs.Putting.{ahead-then}
 use borrow.Author.Needs.{needs}
 use Rattle.listing.proofs.writing.put_refused.Statement.{statement}
 use Rattle.listing.proofs.writing.put_refused.Tie as tie
-use Rattle.listing.proofs.writing.put_refused.Reads as reads
-use Rattle.listing.proofs.writing.put_refused.Lts as lts
-use Rattle.listing.proofs.pieces.put.Reads as put-reads
-use Rattle.listing.proofs.pieces.put_counted.Reads as put-counted-reads
-use Rattle.listing.proofs.pieces.put_decimal.Reads as put-decimal-reads
-use Rattle.refusal.proofs.number.Reads as number-reads
 
 slice-aggregate-put : tie.Need-slice-aggregate-put
 slice-aggregate-put c = search needs

@@ -4,10 +4,6 @@ use Rattle.listing.proofs.Putting.{ahead-then}
 use borrow.Author.Needs.{needs}
 use Rattle.listing.proofs.writing.put_total.Statement.{statement}
 use Rattle.listing.proofs.writing.put_total.Tie as tie
-use Rattle.listing.proofs.writing.put_total.Reads as reads
-use Rattle.listing.proofs.writing.put_total.Lts as lts
-use Rattle.listing.proofs.pieces.put.Reads as put-reads
-use Rattle.listing.proofs.pieces.put_counted.Reads as put-counted-reads
 
 slice-aggregate-put : tie.Need-slice-aggregate-put
 slice-aggregate-put c = search needs

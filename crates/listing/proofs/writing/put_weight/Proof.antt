@@ -4,12 +4,6 @@ use Rattle.listing.proofs.Assembled.{weight-ahead}
 use borrow.Author.Needs.{needs}
 use Rattle.listing.proofs.writing.put_weight.Statement.{statement}
 use Rattle.listing.proofs.writing.put_weight.Tie as tie
-use Rattle.listing.proofs.writing.put_weight.Reads as reads
-use Rattle.listing.proofs.writing.put_weight.Lts as lts
-use Rattle.listing.proofs.pieces.put_address.Reads as put-address-reads
-use Rattle.listing.proofs.pieces.put_decimal.Reads as put-decimal-reads
-use Rattle.listing.proofs.pieces.put_load.Reads as put-load-reads
-use Rattle.listing.proofs.pieces.put_reading.Reads as put-reading-reads
 
 put-reading-requires : tie.Need-put-reading-requires
 put-reading-requires c κs = search needs

@@ -9,12 +9,6 @@ use Rattle.listing.proofs.Assembled.{read-text}
 use borrow.Author.Needs.{needs}
 use Rattle.listing.proofs.writing.write_line.Statement.{statement}
 use Rattle.listing.proofs.writing.write_line.Tie as tie
-use Rattle.listing.proofs.writing.write_line.Reads as reads
-use Rattle.listing.proofs.writing.write_line.Lts as lts
-use Rattle.listing.proofs.writing.is_sound.Reads as is-sound-reads
-use Rattle.listing.proofs.writing.put_line.Reads as put-line-reads
-use Rattle.room.proofs.write.Reads as write-reads
-use Rattle.room.proofs.refused_write.Reads as refused-write-reads
 
 is-sound-requires : tie.Need-is-sound-requires
 is-sound-requires c κs = search needs

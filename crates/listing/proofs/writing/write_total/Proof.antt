@@ -6,10 +6,6 @@ use Rattle.listing.proofs.Assembled.{read-text}
 use borrow.Author.Needs.{needs}
 use Rattle.listing.proofs.writing.write_total.Statement.{statement}
 use Rattle.listing.proofs.writing.write_total.Tie as tie
-use Rattle.listing.proofs.writing.write_total.Reads as reads
-use Rattle.listing.proofs.writing.write_total.Lts as lts
-use Rattle.listing.proofs.writing.put_total.Reads as put-total-reads
-use Rattle.room.proofs.write.Reads as write-reads
 
 slice-aggregate-put-total : tie.Need-slice-aggregate-put-total
 slice-aggregate-put-total c = search needs

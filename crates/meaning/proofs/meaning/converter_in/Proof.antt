@@ -7,10 +7,6 @@ use Rattle.laws.proofs.ByteLists.{by-place, placed}
 use borrow.Author.Needs.{needs}
 use Rattle.meaning.proofs.meaning.converter_in.Statement.{statement}
 use Rattle.meaning.proofs.meaning.converter_in.Tie as tie
-use Rattle.meaning.proofs.meaning.converter_in.Reads as reads
-use Rattle.meaning.proofs.meaning.converter_in.Lts as lts
-use Rattle.low_first.proofs.long.Reads as long-reads
-use Rattle.low_first.proofs.word.Reads as word-reads
 
 shared-slice-read-word : tie.Need-shared-slice-read-word
 shared-slice-read-word c = search needs

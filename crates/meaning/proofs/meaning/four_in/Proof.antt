@@ -4,8 +4,6 @@ use Rattle.laws.proofs.ByteLists.{by-place, placed}
 use borrow.Author.Needs.{needs}
 use Rattle.meaning.proofs.meaning.four_in.Statement.{statement}
 use Rattle.meaning.proofs.meaning.four_in.Tie as tie
-use Rattle.meaning.proofs.meaning.four_in.Reads as reads
-use Rattle.meaning.proofs.meaning.four_in.Lts as lts
 
 shared-slice-read-first : tie.Need-shared-slice-read-first
 shared-slice-read-first c = search needs

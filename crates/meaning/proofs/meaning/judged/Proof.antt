@@ -2,8 +2,6 @@
 -- Why: the test is that of the definition.
 use Rattle.meaning.proofs.meaning.judged.Statement.{statement}
 use Rattle.meaning.proofs.meaning.judged.Tie as tie
-use Rattle.meaning.proofs.meaning.judged.Reads as reads
-use Rattle.meaning.proofs.meaning.judged.Lts as lts
 
 returns : tie.Need-returns
 returns c = rw (c .if1 .taken)

@@ -10,18 +10,6 @@ use Rattle.codes.proofs.Bytes.{exactly}
 use borrow.Author.Needs.{needs}
 use Rattle.meaning.proofs.meaning.say.Statement.{statement}
 use Rattle.meaning.proofs.meaning.say.Tie as tie
-use Rattle.meaning.proofs.meaning.say.Reads as reads
-use Rattle.meaning.proofs.meaning.say.Lts as lts
-use Rattle.inputs.proofs.count_on.Reads as count-on-reads
-use Rattle.meaning.proofs.meaning.converter_in.Reads as converter-in-reads
-use Rattle.meaning.proofs.meaning.four_in.Reads as four-in-reads
-use Rattle.meaning.proofs.meaning.judged.Reads as judged-reads
-use Rattle.meaning.proofs.meaning.say_event.Reads as say-event-reads
-use Rattle.meaning.proofs.meaning.say_text.Reads as say-text-reads
-use Rattle.meaning.proofs.meaning.serial_in.Reads as serial-in-reads
-use Rattle.low_first.proofs.word.Reads as word-reads
-use Rattle.codes.proofs.is_among.Reads as is-among-reads
-use Rattle.weight.proofs.read_bytes.Reads as read-bytes-reads
 
 enum-told : tie.Need-enum-told
 enum-told c = search needs

@@ -4,9 +4,6 @@ use Rattle.meaning.specs.Judging.{said}
 use borrow.Author.Needs.{needs}
 use Rattle.meaning.proofs.meaning.say_event.Statement.{statement}
 use Rattle.meaning.proofs.meaning.say_event.Tie as tie
-use Rattle.meaning.proofs.meaning.say_event.Reads as reads
-use Rattle.meaning.proofs.meaning.say_event.Lts as lts
-use Rattle.meaning.proofs.meaning.judged.Reads as judged-reads
 
 shared-slice-read-event : tie.Need-shared-slice-read-event
 shared-slice-read-event c = search needs

@@ -6,10 +6,6 @@ use Rattle.codes.proofs.Bytes.{counted}
 use borrow.Author.Needs.{needs}
 use Rattle.meaning.proofs.meaning.say_text.Statement.{statement}
 use Rattle.meaning.proofs.meaning.say_text.Tie as tie
-use Rattle.meaning.proofs.meaning.say_text.Reads as reads
-use Rattle.meaning.proofs.meaning.say_text.Lts as lts
-use Rattle.meaning.proofs.meaning.judged.Reads as judged-reads
-use Rattle.codes.proofs.is_among.Reads as is-among-reads
 
 shared-slice-read-number : tie.Need-shared-slice-read-number
 shared-slice-read-number c = omega (arith, counted (c .before .before .args .«data» .now) (c .before .before .pre .0))

@@ -6,9 +6,6 @@ use mathlib.Core.Path.{_∙_, sym, ap}
 use borrow.Author.Needs.{needs}
 use Rattle.meaning.proofs.meaning.serial_in.Statement.{statement}
 use Rattle.meaning.proofs.meaning.serial_in.Tie as tie
-use Rattle.meaning.proofs.meaning.serial_in.Reads as reads
-use Rattle.meaning.proofs.meaning.serial_in.Lts as lts
-use Rattle.low_first.proofs.word.Reads as word-reads
 
 shared-slice-read-word : tie.Need-shared-slice-read-word
 shared-slice-read-word c = search needs

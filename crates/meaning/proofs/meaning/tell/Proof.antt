@@ -7,13 +7,6 @@ use Rattle.meaning.specs.Judging.{told, judgedCode, judgedMessage, judge
 use borrow.Author.Needs.{needs}
 use Rattle.meaning.proofs.meaning.tell.Statement.{statement}
 use Rattle.meaning.proofs.meaning.tell.Tie as tie
-use Rattle.meaning.proofs.meaning.tell.Reads as reads
-use Rattle.meaning.proofs.meaning.tell.Lts as lts
-use Rattle.meaning.proofs.meaning.say.Reads as say-reads
-use Rattle.body.proofs.address_length.Reads as address-length-reads
-use Rattle.codes.proofs.in_table.Reads as in-table-reads
-use Rattle.codes.proofs.length_right.Reads as length-right-reads
-use Rattle.codes.proofs.row_of.Reads as row-of-reads
 
 row-of-requires : tie.Need-row-of-requires
 row-of-requires c κs = search needs

@@ -4,10 +4,6 @@ use Rattle.message.proofs.Checked.{by-its-check}
 use borrow.Author.Needs.{needs}
 use Rattle.message.proofs.reading.read.Statement.{statement}
 use Rattle.message.proofs.reading.read.Tie as tie
-use Rattle.message.proofs.reading.read.Reads as reads
-use Rattle.message.proofs.reading.read.Lts as lts
-use Rattle.body.proofs.check_right.Reads as check-right-reads
-use Rattle.message.proofs.reading.read_without_check.Reads as read-without-check-reads
 
 check-right-requires : tie.Need-check-right-requires
 check-right-requires c κs = search needs

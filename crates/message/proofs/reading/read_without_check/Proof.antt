@@ -5,10 +5,6 @@ use Rattle.message.proofs.Opening.{unopened, in-order, ends-inside, unt
 use borrow.Author.Needs.{needs}
 use Rattle.message.proofs.reading.read_without_check.Statement.{statement}
 use Rattle.message.proofs.reading.read_without_check.Tie as tie
-use Rattle.message.proofs.reading.read_without_check.Reads as reads
-use Rattle.message.proofs.reading.read_without_check.Lts as lts
-use Rattle.body.proofs.open_without_check.Reads as open-without-check-reads
-use Rattle.meaning.proofs.tell.Reads as tell-reads
 
 open-without-check-requires : tie.Need-open-without-check-requires
 open-without-check-requires c κs = search needs

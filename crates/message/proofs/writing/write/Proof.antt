@@ -8,12 +8,6 @@ use Rattle.message.proofs.Order.{untold-leaves, told-leaves}
 use borrow.Author.Needs.{needs}
 use Rattle.message.proofs.writing.write.Statement.{statement}
 use Rattle.message.proofs.writing.write.Tie as tie
-use Rattle.message.proofs.writing.write.Reads as reads
-use Rattle.message.proofs.writing.write.Lts as lts
-use Rattle.body.proofs.legal.Reads as legal-reads
-use Rattle.frame.proofs.write.Reads as write-reads
-use Rattle.meaning.proofs.tell.Reads as tell-reads
-use Rattle.room.proofs.refused_write.Reads as refused-write-reads
 
 legal-requires : tie.Need-legal-requires
 legal-requires c κs = search needs

@@ -6,12 +6,6 @@ use Rattle.quay_line.specs.Listening.{wentOut}
 use borrow.Author.Needs.{needs}
 use Rattle.quay_line.proofs.listening.quay_listen.Statement.{statement}
 use Rattle.quay_line.proofs.listening.quay_listen.Tie as tie
-use Rattle.quay_line.proofs.listening.quay_listen.Reads as reads
-use Rattle.quay_line.proofs.listening.quay_listen.Lts as lts
-use Rattle.refusal.proofs.number.Reads as number-reads
-use Rattle.line.proofs.places.Place.listen.Reads as listen-reads
-use Rattle.quay_line.proofs.places.place_from.Reads as place-from-reads
-use Rattle.quay_line.proofs.listening.went_out.Reads as went-out-reads
 
 number-requires : tie.Need-number-requires
 number-requires c κs = search needs

@@ -3,10 +3,6 @@
 use borrow.Author.Needs.{needs}
 use Rattle.quay_line.proofs.listening.went_out.Statement.{statement}
 use Rattle.quay_line.proofs.listening.went_out.Tie as tie
-use Rattle.quay_line.proofs.listening.went_out.Reads as reads
-use Rattle.quay_line.proofs.listening.went_out.Lts as lts
-use Rattle.quay_line.proofs.places.event_out.Reads as event-out-reads
-use Rattle.quay_line.proofs.places.place_out.Reads as place-out-reads
 
 place-out-requires : tie.Need-place-out-requires
 place-out-requires c κs = search needs

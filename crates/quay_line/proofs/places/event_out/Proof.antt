@@ -3,9 +3,6 @@
 use borrow.Author.Needs.{needs}
 use Rattle.quay_line.proofs.places.event_out.Statement.{statement}
 use Rattle.quay_line.proofs.places.event_out.Tie as tie
-use Rattle.quay_line.proofs.places.event_out.Reads as reads
-use Rattle.quay_line.proofs.places.event_out.Lts as lts
-use Rattle.refusal.proofs.number.Reads as number-reads
 
 enum-told : tie.Need-enum-told
 enum-told c = search needs

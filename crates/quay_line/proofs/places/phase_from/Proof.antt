@@ -4,8 +4,6 @@ use borrow.Author.Tests.{ne-eqb}
 use Rattle.quay_line.specs.Places.{phaseFrom}
 use Rattle.quay_line.proofs.places.phase_from.Statement.{statement}
 use Rattle.quay_line.proofs.places.phase_from.Tie as tie
-use Rattle.quay_line.proofs.places.phase_from.Reads as reads
-use Rattle.quay_line.proofs.places.phase_from.Lts as lts
 
 returns : tie.Need-returns
 unfolding phaseFrom

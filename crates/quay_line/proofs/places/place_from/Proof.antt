@@ -3,9 +3,6 @@
 use borrow.Author.Needs.{needs}
 use Rattle.quay_line.proofs.places.place_from.Statement.{statement}
 use Rattle.quay_line.proofs.places.place_from.Tie as tie
-use Rattle.quay_line.proofs.places.place_from.Reads as reads
-use Rattle.quay_line.proofs.places.place_from.Lts as lts
-use Rattle.quay_line.proofs.places.phase_from.Reads as phase-from-reads
 
 phase-from-requires : tie.Need-phase-from-requires
 phase-from-requires c κs = search needs

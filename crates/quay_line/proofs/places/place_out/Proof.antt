@@ -3,9 +3,6 @@
 use borrow.Author.Needs.{needs}
 use Rattle.quay_line.proofs.places.place_out.Statement.{statement}
 use Rattle.quay_line.proofs.places.place_out.Tie as tie
-use Rattle.quay_line.proofs.places.place_out.Reads as reads
-use Rattle.quay_line.proofs.places.place_out.Lts as lts
-use Rattle.quay_line.proofs.places.phase_number.Reads as phase-number-reads
 
 phase-number-requires : tie.Need-phase-number-requires
 phase-number-requires c κs = search needs

@@ -3,11 +3,6 @@
 use borrow.Author.Needs.{needs}
 use Rattle.quay_listing.proofs.lines.list_entry.Statement.{statement}
 use Rattle.quay_listing.proofs.lines.list_entry.Tie as tie
-use Rattle.quay_listing.proofs.lines.list_entry.Reads as reads
-use Rattle.quay_listing.proofs.lines.list_entry.Lts as lts
-use Rattle.listing.proofs.write_line.Reads as write-line-reads
-use Rattle.quay_listing.proofs.lines.entry_number.Reads as entry-number-reads
-use Rattle.crossing.proofs.written_out.Reads as written-out-reads
 
 entry-number-requires : tie.Need-entry-number-requires
 entry-number-requires c κs = search needs

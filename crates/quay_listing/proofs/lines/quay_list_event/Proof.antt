@@ -4,12 +4,6 @@ use mathlib.Core.Path.{_∙_, sym}
 use borrow.Author.Needs.{needs}
 use Rattle.quay_listing.proofs.lines.quay_list_event.Statement.{statement}
 use Rattle.quay_listing.proofs.lines.quay_list_event.Tie as tie
-use Rattle.quay_listing.proofs.lines.quay_list_event.Reads as reads
-use Rattle.quay_listing.proofs.lines.quay_list_event.Lts as lts
-use Rattle.entries.proofs.heard.Reads as heard-reads
-use Rattle.crossing.proofs.event_from.Reads as event-from-reads
-use Rattle.quay_listing.proofs.lines.list_entry.Reads as list-entry-reads
-use Rattle.quay_listing.proofs.lines.unlisted.Reads as unlisted-reads
 
 event-from-requires : tie.Need-event-from-requires
 event-from-requires c κs = search needs

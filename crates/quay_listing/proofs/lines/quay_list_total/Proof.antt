@@ -4,10 +4,6 @@ use Rattle.crossing.proofs.Crossing.{crosses}
 use borrow.Author.Needs.{needs}
 use Rattle.quay_listing.proofs.lines.quay_list_total.Statement.{statement}
 use Rattle.quay_listing.proofs.lines.quay_list_total.Tie as tie
-use Rattle.quay_listing.proofs.lines.quay_list_total.Reads as reads
-use Rattle.quay_listing.proofs.lines.quay_list_total.Lts as lts
-use Rattle.listing.proofs.write_total.Reads as write-total-reads
-use Rattle.crossing.proofs.written_out.Reads as written-out-reads
 
 write-total-requires : tie.Need-write-total-requires
 write-total-requires c κs = search needs

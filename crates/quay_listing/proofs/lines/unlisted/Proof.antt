@@ -3,9 +3,6 @@
 use borrow.Author.Needs.{needs}
 use Rattle.quay_listing.proofs.lines.unlisted.Statement.{statement}
 use Rattle.quay_listing.proofs.lines.unlisted.Tie as tie
-use Rattle.quay_listing.proofs.lines.unlisted.Reads as reads
-use Rattle.quay_listing.proofs.lines.unlisted.Lts as lts
-use Rattle.refusal.proofs.number.Reads as number-reads
 
 number-requires : tie.Need-number-requires
 number-requires c κs = search needs

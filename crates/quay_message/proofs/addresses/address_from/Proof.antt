@@ -4,8 +4,6 @@ use borrow.Author.Tests.{eq-eqb, ne-eqb}
 use Rattle.quay_message.specs.Addresses.{addressFrom}
 use Rattle.quay_message.proofs.addresses.address_from.Statement.{statement}
 use Rattle.quay_message.proofs.addresses.address_from.Tie as tie
-use Rattle.quay_message.proofs.addresses.address_from.Reads as reads
-use Rattle.quay_message.proofs.addresses.address_from.Lts as lts
 
 returns : tie.Need-returns
 unfolding addressFrom

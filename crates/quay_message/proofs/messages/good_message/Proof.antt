@@ -3,11 +3,6 @@
 use borrow.Author.Needs.{needs}
 use Rattle.quay_message.proofs.messages.good_message.Statement.{statement}
 use Rattle.quay_message.proofs.messages.good_message.Tie as tie
-use Rattle.quay_message.proofs.messages.good_message.Reads as reads
-use Rattle.quay_message.proofs.messages.good_message.Lts as lts
-use Rattle.body.proofs.serial_of.Reads as serial-of-reads
-use Rattle.body.proofs.first_byte.Reads as first-byte-reads
-use Rattle.quay_message.proofs.messages.what_out.Reads as what-out-reads
 
 what-out-requires : tie.Need-what-out-requires
 what-out-requires c κs = search needs

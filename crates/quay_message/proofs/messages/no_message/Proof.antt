@@ -3,10 +3,6 @@
 use borrow.Author.Needs.{needs}
 use Rattle.quay_message.proofs.messages.no_message.Statement.{statement}
 use Rattle.quay_message.proofs.messages.no_message.Tie as tie
-use Rattle.quay_message.proofs.messages.no_message.Reads as reads
-use Rattle.quay_message.proofs.messages.no_message.Lts as lts
-use Rattle.quay_message.proofs.messages.plain.Reads as plain-reads
-use Rattle.refusal.proofs.number.Reads as number-reads
 
 plain-requires : tie.Need-plain-requires
 plain-requires c κs = search needs

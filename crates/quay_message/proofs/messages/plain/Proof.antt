@@ -3,9 +3,6 @@
 use borrow.Author.Needs.{needs}
 use Rattle.quay_message.proofs.messages.plain.Statement.{statement}
 use Rattle.quay_message.proofs.messages.plain.Tie as tie
-use Rattle.quay_message.proofs.messages.plain.Reads as reads
-use Rattle.quay_message.proofs.messages.plain.Lts as lts
-use Rattle.quay_message.proofs.messages.no_weight.Reads as no-weight-reads
 
 no-weight-requires : tie.Need-no-weight-requires
 no-weight-requires c κs = search needs

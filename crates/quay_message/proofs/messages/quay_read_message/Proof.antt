@@ -3,12 +3,6 @@
 use borrow.Author.Needs.{needs}
 use Rattle.quay_message.proofs.messages.quay_read_message.Statement.{statement}
 use Rattle.quay_message.proofs.messages.quay_read_message.Tie as tie
-use Rattle.quay_message.proofs.messages.quay_read_message.Reads as reads
-use Rattle.quay_message.proofs.messages.quay_read_message.Lts as lts
-use Rattle.crossing.proofs.role_from.Reads as role-from-reads
-use Rattle.message.proofs.read.Reads as read-reads
-use Rattle.quay_message.proofs.messages.no_message.Reads as no-message-reads
-use Rattle.quay_message.proofs.messages.received_out.Reads as received-out-reads
 
 role-from-requires : tie.Need-role-from-requires
 role-from-requires c κs = search needs

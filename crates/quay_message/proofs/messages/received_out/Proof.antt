@@ -3,10 +3,6 @@
 use borrow.Author.Needs.{needs}
 use Rattle.quay_message.proofs.messages.received_out.Statement.{statement}
 use Rattle.quay_message.proofs.messages.received_out.Tie as tie
-use Rattle.quay_message.proofs.messages.received_out.Reads as reads
-use Rattle.quay_message.proofs.messages.received_out.Lts as lts
-use Rattle.quay_message.proofs.messages.good_message.Reads as good-message-reads
-use Rattle.quay_message.proofs.messages.no_message.Reads as no-message-reads
 
 enum-known-received : tie.Need-enum-known-received
 enum-known-received c = search needs

@@ -3,10 +3,6 @@
 use borrow.Author.Needs.{needs}
 use Rattle.quay_message.proofs.messages.weight_out.Statement.{statement}
 use Rattle.quay_message.proofs.messages.weight_out.Tie as tie
-use Rattle.quay_message.proofs.messages.weight_out.Reads as reads
-use Rattle.quay_message.proofs.messages.weight_out.Lts as lts
-use Rattle.quay_message.proofs.messages.no_weight.Reads as no-weight-reads
-use Rattle.weight.proofs.to_bytes.Reads as to-bytes-reads
 
 to-bytes-requires : tie.Need-to-bytes-requires
 to-bytes-requires c κs = search needs

@@ -3,12 +3,6 @@
 use borrow.Author.Needs.{needs}
 use Rattle.quay_message.proofs.messages.what_out.Statement.{statement}
 use Rattle.quay_message.proofs.messages.what_out.Tie as tie
-use Rattle.quay_message.proofs.messages.what_out.Reads as reads
-use Rattle.quay_message.proofs.messages.what_out.Lts as lts
-use Rattle.records.proofs.kind_of.Reads as kind-of-reads
-use Rattle.quay_message.proofs.messages.placed.Reads as placed-reads
-use Rattle.quay_message.proofs.messages.plain.Reads as plain-reads
-use Rattle.quay_message.proofs.messages.weight_out.Reads as weight-out-reads
 
 enum-told : tie.Need-enum-told
 enum-told c = search needs

@@ -4,11 +4,6 @@ use Rattle.crossing.proofs.Crossing.{crosses}
 use borrow.Author.Needs.{needs}
 use Rattle.quay_message.proofs.writing.quay_write_frame.Statement.{statement}
 use Rattle.quay_message.proofs.writing.quay_write_frame.Tie as tie
-use Rattle.quay_message.proofs.writing.quay_write_frame.Reads as reads
-use Rattle.quay_message.proofs.writing.quay_write_frame.Lts as lts
-use Rattle.frame.proofs.write.Reads as write-reads
-use Rattle.quay_message.proofs.addresses.address_from.Reads as address-from-reads
-use Rattle.crossing.proofs.written_out.Reads as written-out-reads
 
 address-from-requires : tie.Need-address-from-requires
 address-from-requires c κs = search needs

@@ -5,13 +5,6 @@ use Rattle.crossing.proofs.Crossing.{crosses, crosses-not}
 use borrow.Author.Needs.{needs}
 use Rattle.quay_message.proofs.writing.quay_write_message.Statement.{statement}
 use Rattle.quay_message.proofs.writing.quay_write_message.Tie as tie
-use Rattle.quay_message.proofs.writing.quay_write_message.Reads as reads
-use Rattle.quay_message.proofs.writing.quay_write_message.Lts as lts
-use Rattle.crossing.proofs.role_from.Reads as role-from-reads
-use Rattle.crossing.proofs.written_out.Reads as written-out-reads
-use Rattle.message.proofs.write.Reads as write-reads
-use Rattle.quay_message.proofs.addresses.address_from.Reads as address-from-reads
-use Rattle.room.proofs.refused_write.Reads as refused-write-reads
 
 role-from-requires : tie.Need-role-from-requires
 role-from-requires c κs = search needs

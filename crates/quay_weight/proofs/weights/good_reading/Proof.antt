@@ -3,9 +3,6 @@
 use borrow.Author.Needs.{needs}
 use Rattle.quay_weight.proofs.weights.good_reading.Statement.{statement}
 use Rattle.quay_weight.proofs.weights.good_reading.Tie as tie
-use Rattle.quay_weight.proofs.weights.good_reading.Reads as reads
-use Rattle.quay_weight.proofs.weights.good_reading.Lts as lts
-use Rattle.quay_weight.proofs.weights.mark.Reads as mark-reads
 
 mark-requires : tie.Need-mark-requires
 mark-requires c κs = search needs

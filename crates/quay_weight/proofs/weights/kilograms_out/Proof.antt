@@ -4,9 +4,6 @@ use Rattle.quay_weight.proofs.NoNumber.{no-number}
 use borrow.Author.Needs.{needs}
 use Rattle.quay_weight.proofs.weights.kilograms_out.Statement.{statement}
 use Rattle.quay_weight.proofs.weights.kilograms_out.Tie as tie
-use Rattle.quay_weight.proofs.weights.kilograms_out.Reads as reads
-use Rattle.quay_weight.proofs.weights.kilograms_out.Lts as lts
-use Rattle.refusal.proofs.number.Reads as number-reads
 
 enum-known-weighed : tie.Need-enum-known-weighed
 enum-known-weighed c = search needs

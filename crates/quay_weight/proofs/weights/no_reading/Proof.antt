@@ -3,9 +3,6 @@
 use borrow.Author.Needs.{needs}
 use Rattle.quay_weight.proofs.weights.no_reading.Statement.{statement}
 use Rattle.quay_weight.proofs.weights.no_reading.Tie as tie
-use Rattle.quay_weight.proofs.weights.no_reading.Reads as reads
-use Rattle.quay_weight.proofs.weights.no_reading.Lts as lts
-use Rattle.refusal.proofs.number.Reads as number-reads
 
 number-requires : tie.Need-number-requires
 number-requires c κs = search needs

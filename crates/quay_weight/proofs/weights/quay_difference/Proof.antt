@@ -3,11 +3,6 @@
 use borrow.Author.Needs.{needs}
 use Rattle.quay_weight.proofs.weights.quay_difference.Statement.{statement}
 use Rattle.quay_weight.proofs.weights.quay_difference.Tie as tie
-use Rattle.quay_weight.proofs.weights.quay_difference.Reads as reads
-use Rattle.quay_weight.proofs.weights.quay_difference.Lts as lts
-use Rattle.quay_weight.proofs.weights.read.Reads as read-reads
-use Rattle.quay_weight.proofs.weights.value_out.Reads as value-out-reads
-use Rattle.weight.proofs.gross_less_net.Reads as gross-less-net-reads
 
 read-requires : tie.Need-read-requires
 read-requires c κs = search needs

@@ -3,11 +3,6 @@
 use borrow.Author.Needs.{needs}
 use Rattle.quay_weight.proofs.weights.quay_kilograms.Statement.{statement}
 use Rattle.quay_weight.proofs.weights.quay_kilograms.Tie as tie
-use Rattle.quay_weight.proofs.weights.quay_kilograms.Reads as reads
-use Rattle.quay_weight.proofs.weights.quay_kilograms.Lts as lts
-use Rattle.kilograms.proofs.kilograms_of.Reads as kilograms-of-reads
-use Rattle.quay_weight.proofs.weights.kilograms_out.Reads as kilograms-out-reads
-use Rattle.quay_weight.proofs.weights.read.Reads as read-reads
 
 read-requires : tie.Need-read-requires
 read-requires c κs = search needs

@@ -3,11 +3,6 @@
 use borrow.Author.Needs.{needs}
 use Rattle.quay_weight.proofs.weights.quay_read_weight.Statement.{statement}
 use Rattle.quay_weight.proofs.weights.quay_read_weight.Tie as tie
-use Rattle.quay_weight.proofs.weights.quay_read_weight.Reads as reads
-use Rattle.quay_weight.proofs.weights.quay_read_weight.Lts as lts
-use Rattle.quay_weight.proofs.weights.good_reading.Reads as good-reading-reads
-use Rattle.quay_weight.proofs.weights.no_reading.Reads as no-reading-reads
-use Rattle.quay_weight.proofs.weights.read.Reads as read-reads
 
 read-requires : tie.Need-read-requires
 read-requires c κs = search needs

@@ -3,11 +3,6 @@
 use borrow.Author.Needs.{needs}
 use Rattle.quay_weight.proofs.weights.quay_value.Statement.{statement}
 use Rattle.quay_weight.proofs.weights.quay_value.Tie as tie
-use Rattle.quay_weight.proofs.weights.quay_value.Reads as reads
-use Rattle.quay_weight.proofs.weights.quay_value.Lts as lts
-use Rattle.quay_weight.proofs.weights.read.Reads as read-reads
-use Rattle.quay_weight.proofs.weights.value_out.Reads as value-out-reads
-use Rattle.weight.proofs.value_of.Reads as value-of-reads
 
 read-requires : tie.Need-read-requires
 read-requires c κs = search needs

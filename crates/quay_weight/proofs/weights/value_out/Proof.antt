@@ -5,9 +5,6 @@ use mir.ValLaws.{toZ-ofZ}
 use borrow.Author.Needs.{needs}
 use Rattle.quay_weight.proofs.weights.value_out.Statement.{statement}
 use Rattle.quay_weight.proofs.weights.value_out.Tie as tie
-use Rattle.quay_weight.proofs.weights.value_out.Reads as reads
-use Rattle.quay_weight.proofs.weights.value_out.Lts as lts
-use Rattle.refusal.proofs.number.Reads as number-reads
 
 enum-known-value : tie.Need-enum-known-value
 enum-known-value c = search needs

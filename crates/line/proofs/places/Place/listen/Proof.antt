@@ -20,11 +20,6 @@ use Rattle.line.proofs.Joined.{step-few, step-length}
 use Rattle.line.proofs.Blocks.{sound-few, fed-sound, taken-is, next-turn, stop, at-end, standing, listens, unlent}
 use Rattle.line.proofs.places.Place.listen.Statement.{statement}
 use Rattle.line.proofs.places.Place.listen.Tie as tie
-use Rattle.line.proofs.places.Place.listen.Reads as reads
-use Rattle.line.proofs.places.Place.listen.Lts as lts
-use Rattle.line.proofs.listening.size_of.Reads as size-of-reads
-use Rattle.line.proofs.places.Place.sound.Reads as sound-reads
-use Rattle.line.proofs.places.Place.step.Reads as step-reads
 
 -- an arm for the other events was taken: it was not Nothing
 spoken : (event : Event) → OneOf (1 ∷ 2 ∷ []) (tagOf the-type event) → event ≡ Nothing → ⊥

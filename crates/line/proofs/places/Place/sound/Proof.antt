@@ -4,9 +4,6 @@ use borrow.Author.Tests.{lt-ltb, le-ltb}
 use borrow.Author.Needs.{needs}
 use Rattle.line.proofs.places.Place.sound.Statement.{statement}
 use Rattle.line.proofs.places.Place.sound.Tie as tie
-use Rattle.line.proofs.places.Place.sound.Reads as reads
-use Rattle.line.proofs.places.Place.sound.Lts as lts
-use Rattle.line.proofs.places.Place.fresh.Reads as fresh-reads
 
 fresh-requires : tie.Need-fresh-requires
 fresh-requires c κs = search needs

@@ -7,13 +7,6 @@ use Rattle.line.proofs.Moves.{in-phase, seeking-ff, seeking-other, deli
 use borrow.Author.Needs.{needs}
 use Rattle.line.proofs.places.Place.step.Statement.{statement}
 use Rattle.line.proofs.places.Place.step.Tie as tie
-use Rattle.line.proofs.places.Place.step.Reads as reads
-use Rattle.line.proofs.places.Place.step.Lts as lts
-use Rattle.line.proofs.places.end_body.Reads as end-body-reads
-use Rattle.line.proofs.places.keep_byte.Reads as keep-byte-reads
-use Rattle.line.proofs.places.quiet.Reads as quiet-reads
-use Rattle.line.proofs.places.refuse.Reads as refuse-reads
-use Rattle.std.proofs.num.wrapping_add_u64.Reads as wrapping-add-u64-reads
 
 wrapping-add-u64-requires : tie.Need-wrapping-add-u64-requires
 wrapping-add-u64-requires c κs = search needs

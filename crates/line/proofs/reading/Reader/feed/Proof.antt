@@ -6,9 +6,6 @@ use Rattle.line.proofs.Blocks.{feeds, fed-lent}
 use borrow.Author.Needs.{needs}
 use Rattle.line.proofs.reading.Reader.feed.Statement.{statement}
 use Rattle.line.proofs.reading.Reader.feed.Tie as tie
-use Rattle.line.proofs.reading.Reader.feed.Reads as reads
-use Rattle.line.proofs.reading.Reader.feed.Lts as lts
-use Rattle.line.proofs.places.Place.listen.Reads as listen-reads
 
 -- the reader's own array has 255 bytes
 full : (c : tie.After-next) → length (c .before .before .before .before .before .args .t1 .body) ≡ 255

@@ -4,9 +4,6 @@ use lib.ListN.{replicate}
 use borrow.Author.Needs.{needs}
 use Rattle.line.proofs.reading.Reader.new.Statement.{statement}
 use Rattle.line.proofs.reading.Reader.new.Tie as tie
-use Rattle.line.proofs.reading.Reader.new.Reads as reads
-use Rattle.line.proofs.reading.Reader.new.Lts as lts
-use Rattle.line.proofs.places.Place.fresh.Reads as fresh-reads
 
 fresh-requires : tie.Need-fresh-requires
 fresh-requires c κs = search needs

@@ -5,10 +5,6 @@ use Rattle.line.proofs.Blocks.{sound-few, taken-is, taken-sound, soundl
 use borrow.Author.Needs.{needs}
 use Rattle.line.proofs.reading.Reader.take.Statement.{statement}
 use Rattle.line.proofs.reading.Reader.take.Tie as tie
-use Rattle.line.proofs.reading.Reader.take.Reads as reads
-use Rattle.line.proofs.reading.Reader.take.Lts as lts
-use Rattle.line.proofs.places.Place.sound.Reads as sound-reads
-use Rattle.line.proofs.places.Place.step.Reads as step-reads
 
 sound-requires : tie.Need-sound-requires
 sound-requires c κs = search needs
