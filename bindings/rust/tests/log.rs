@@ -118,10 +118,10 @@ fn what_was_heard_makes_its_record() {
 }
 
 #[test]
-fn a_refusal_that_is_not_met_on_a_line_makes_no_record() {
+fn a_refusal_that_no_line_can_meet_is_refused() {
     for why in [Refusal::RoomShort, Refusal::LogLeftOver, Refusal::RecordBroken] {
         let event = Event::Refused { why, wire: WirePlace(1), kept: BodyPlace(0) };
-        assert_eq!(record_heard(5, Role::Reply, event), Ok(None), "{why}");
+        assert_eq!(record_heard(5, Role::Reply, event), Err(Refusal::FieldOutside), "{why}");
     }
 }
 
