@@ -1,7 +1,6 @@
-// What several exported functions share: events, roles, weights and the answer of a write, as numbers and small structs by value.
+// What several exported functions share: events, roles and the answer of a write, as numbers and small structs by value.
 mod events;
 mod roles;
-mod weights;
 mod writing;
 
 pub use events::Given;
@@ -9,6 +8,5 @@ pub use events::QuayEvent;
 pub use events::event_from;
 pub use roles::Asked;
 pub use roles::role_from;
-pub use weights::QuayWeight;
 pub use writing::QuayWritten;
 pub use writing::written_out;

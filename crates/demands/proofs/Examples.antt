@@ -7,22 +7,22 @@ use Rattle.body.specs.Addresses.{legal, addressIn, addressLength}
 use Rattle.body.specs.Body.{short, judged, judgedLent, codeIn, dataIn}
 use Rattle.frame.specs.Stuffing.{stuffedByte, stuffed, framed}
 use Rattle.line.specs.Listener.{tick, keep, ended, hearIn, hear, heardThen, events}
-use Rattle.weight.specs.Bytes.{inRange, readOf, packedOf}
+use Rattle.weight.specs.Bytes.{inRange, fourIn, readOf}
 use Rattle.weight.specs.Tenths.{valueOf}
 use Rattle.codes.specs.Table.{lineIn, lineOf, rowOf}
-use Rattle.meaning.specs.Fields.{readIn}
 use Rattle.low_first.specs.LowFirst.{lowFirst}
 use Rattle.meaning.specs.Judging.{judgedCode, judgedData, judgedMessage}
 use Rattle.message.specs.Reading.{messageOf, readMessage, readIf}
-use Rattle.weighing_log.specs.Hearing.{metRecord, recordOf}
+use Rattle.weighing_log.specs.Hearing.{metRecord, weighedRecord, recordOf}
+use Rattle.records.specs.Records.{addressOf, goodAddress, goodWeighing, good}
 use Rattle.demands.specs.Examples.{JudgedExamples}
 use Rattle.demands.specs.Logs.{ExamplesNoted}
 use Rattle.demands.specs.Weighings.{recordsFrom}
 
 pub judged-examples : JudgedExamples
-unfolding flatten shiftIn feedBits feedByte feedAll received legal addressIn addressLength short judged judgedLent codeIn dataIn stuffedByte stuffed framed tick keep ended hearIn hear heardThen events inRange readOf valueOf readIn lineIn lineOf rowOf lowFirst judgedData judgedMessage judgedCode messageOf readIf readMessage
+unfolding flatten shiftIn feedBits feedByte feedAll received legal addressIn addressLength short judged judgedLent codeIn dataIn stuffedByte stuffed framed tick keep ended hearIn hear heardThen events inRange readOf valueOf fourIn lineIn lineOf rowOf lowFirst judgedData judgedMessage judgedCode messageOf readIf readMessage
 judged-examples = record { read = refl; written = refl; too-long = (refl, refl) }
 
 pub examples-noted : ExamplesNoted
-unfolding flatten recordsFrom recordOf metRecord packedOf shiftIn feedBits feedByte feedAll received legal addressIn addressLength short judged judgedLent codeIn dataIn inRange readOf readIn lineIn lineOf rowOf lowFirst judgedData judgedMessage judgedCode messageOf readIf readMessage
+unfolding flatten recordsFrom recordOf metRecord weighedRecord good goodWeighing goodAddress addressOf shiftIn feedBits feedByte feedAll received legal addressIn addressLength short judged judgedLent codeIn dataIn inRange readOf fourIn lineIn lineOf rowOf lowFirst judgedData judgedMessage judgedCode messageOf readIf readMessage
 examples-noted = refl

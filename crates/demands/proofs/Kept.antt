@@ -13,12 +13,13 @@ use Rattle.body.specs.Body.{bodyOf}
 use Rattle.body.proofs.Anatomy.{body-length}
 use Rattle.frame.specs.Stuffing.{needed}
 use Rattle.line.specs.Listener.{Heard}
+use Rattle.weight.specs.declared.FourBytes.{FourBytes}
 use Rattle.weight.specs.declared.Reading.{Reading}
 use Rattle.weight.specs.declared.Read.the-variants as read-as
 use Rattle.weight.specs.declared.Packed.the-variants as packed-as
 use Rattle.weight.specs.Digits.{digitsOf}
 use Rattle.weight.specs.Status.{readingOf}
-use Rattle.weight.specs.Bytes.{readOf, packedOf}
+use Rattle.weight.specs.Bytes.{fourBytes, fourIn, readOf, packedOf}
 use Rattle.weight.proofs.RoundTrip.{bytes-back}
 use Rattle.codes.specs.declared.table.Role.{Role}
 use Rattle.codes.specs.declared.table.Role.the-variants.{Reply}
@@ -26,8 +27,8 @@ use Rattle.codes.specs.declared.table.Load.{Load}
 use Rattle.codes.specs.declared.table.Load.the-variants.{Net, Gross}
 use Rattle.codes.specs.declared.table.Row.the-variants.{Weight}
 use Rattle.codes.specs.Table.{lineIn, lineOf, rowOf}
-use Rattle.meaning.specs.declared.meaning.What.the-variants as says
-use Rattle.meaning.specs.Fields.{readIn}
+use Rattle.meaning.specs.declared.meaning.WeightOrNot.the-variants as said-as
+use Rattle.meaning.specs.Weights.{weightSaid}
 use Rattle.meaning.specs.Judging.{judgedCode, judgedData, judgedMessage}
 use Rattle.message.specs.declared.reading.Received.the-variants as received-as
 use Rattle.message.specs.Reading.{messageOf, readMessage}
@@ -38,6 +39,7 @@ use Rattle.weighing_log.specs.declared.hearing.Noted.{Noted}
 use Rattle.weighing_log.specs.declared.hearing.Noted.the-variants as noted-as
 use Rattle.weighing_log.specs.Hearing.{recordOf, notedHeard}
 use Rattle.weighing_log.specs.Heard.{codeOf}
+use Rattle.weighing_log.proofs.Heard.{weighing-made}
 use Rattle.entries.specs.Entries.{entryHeard}
 use Rattle.demands.specs.Kept.{WeightReply, WeightsKept, LogKeepsEach}
 use Rattle.demands.specs.Weighings.{noteThen, recordsFrom}
@@ -52,54 +54,56 @@ unfolding addressLength
 at-most-four (Short byte) = omega arith
 at-most-four (Serial serial) = omega arith
 
-module _ (address : Address) (load : Load) (w0 w1 w2 con : ℕ) (reply : WeightReply address w0 w1 w2 con) where
-  four : List ℕ
-  four = w0 ∷ w1 ∷ w2 ∷ con ∷ []
+module _ (address : Address) (load : Load) (four : FourBytes) (reply : WeightReply address four) where
+  four-of : fourIn (fourBytes four) ≡ four
+  unfolding fourIn
+  four-of = refl
 
   body : List ℕ
-  body = bodyOf address (codeOf load) four
+  body = bodyOf address (codeOf load) (fourBytes four)
 
   reading : Reading
-  reading = readingOf (digitsOf w0 w1 w2) con
+  reading = readingOf (digitsOf (four .w0) (four .w1) (four .w2)) (four .con)
 
-  read : readOf w0 w1 w2 con ≡ read-as.Good reading
+  read : readOf four ≡ read-as.Good reading
   unfolding readOf reading
   read = rw (reply .digits)
 
-  packs : packedOf reading ≡ packed-as.Bytes w0 w1 w2 con
-  packs = bytes-back w0 w1 w2 con (reply .status) reading read
+  packs : packedOf reading ≡ packed-as.Bytes four
+  packs = bytes-back four (reply .status) reading read
 
-  right : judgedMessage Reply (codeOf load) four ≡ Good
-  unfolding judgedMessage judgedCode judgedData readIn four
-  right = rw (row load, read)
+  right : judgedMessage Reply (codeOf load) (fourBytes four) ≡ Good
+  unfolding judgedMessage judgedCode judgedData
+  right = rw (row load, four-of, read)
 
   -- a room that is long enough for its frame
   room : List ℕ
   room = replicate (needed body) 0
 
-  writable : judgedMessageWrite Reply address (codeOf load) four room ≡ Good
-  unfolding body four room
+  writable : judgedMessageWrite Reply address (codeOf load) (fourBytes four) room ≡ Good
+  unfolding body room
   writable =
-      may-be-written Reply address (codeOf load) four room (reply .from) right
-      (omega (arith, body-length address (codeOf load) four, at-most-four address)) (omega (arith, length-replicate {A = ℕ} (needed body) 0))
+      may-be-written Reply address (codeOf load) (fourBytes four) room (reply .from) right
+      (omega (arith, body-length address (codeOf load) (fourBytes four), at-most-four address)) (omega (arith, length-replicate {A = ℕ} (needed body) 0))
 
-  is-read : readMessage Reply body ≡ received-as.Message (messageOf Reply address (codeOf load) four)
+  is-read : readMessage Reply body ≡ received-as.Message (messageOf Reply address (codeOf load) (fourBytes four))
   unfolding body
-  is-read = read-back Reply address (codeOf load) four room writable
+  is-read = read-back Reply address (codeOf load) (fourBytes four) room writable
 
-  said : messageOf Reply address (codeOf load) four .what ≡ says.Weight load reading
-  unfolding messageOf readIn four
-  said = rw (row load, read)
+  says : weightSaid (messageOf Reply address (codeOf load) (fourBytes four) .what) ≡ said-as.Weight (record { load = load; bytes = four; reading = reading })
+  unfolding messageOf
+  says = rw (row load, four-of, read)
 
 pub weights-kept : WeightsKept
-unfolding recordOf entryHeard messageOf body four
-weights-kept wire kept address load w0 w1 w2 con reply =
-    let is = is-read address load w0 w1 w2 con reply in
-    let says-it = said address load w0 w1 w2 con reply in
-    let packed = packs address load w0 w1 w2 con reply in
+unfolding recordOf entryHeard messageOf body
+weights-kept wire kept address load four reply =
+    let is = is-read address load four reply in
+    let says-it = says address load four reply in
     record {
-      noted = λ (time : ℕ). rw (is, says-it, packed, reply .from);
-      listed = record { reading = reading address load w0 w1 w2 con reply; packed = packed; listed = rw (is, says-it) };
+      noted =
+          λ (time : ℕ). rw (is, says-it)
+          (weighing-made time address four (rw (read address load four reply)) (reply .from) load);
+      listed = record { reading = reading address load four reply; packed = packs address load four reply; listed = rw (is, says-it) };
     }
 
 -- ---- all that a line gives

@@ -5,7 +5,6 @@ pub mod Corollaries
 pub mod Counts
 pub mod Cuts
 pub mod Demand3
-pub mod Entries
 pub mod Examples
 pub mod Kept
 pub mod Logs

@@ -6,6 +6,7 @@ use mathlib.Core.Bool.{true}
 use mathlib.Core.List.{List, [], _∷_}
 use Rattle.line.specs.Listener.{Heard, nothing, frame, refused}
 use Rattle.codes.specs.declared.table.Role.{Role}
+use Rattle.meaning.specs.Weights.{weightSaid}
 use Rattle.message.specs.declared.reading.Received.{Received}
 use Rattle.message.specs.declared.reading.Received.the-variants as received-as
 use Rattle.message.specs.Reading.{readMessage}
@@ -29,7 +30,7 @@ every-log-stepped log = record { comes = stepping log; only = λ other steps. st
 -- what is noted is good, and of its time
 time-kept : (time : ℕ) (received : Received) (item : Record) → recordOf time received ≡ noted-as.Record item → item .time ≡ time
 unfolding recordOf
-time-kept time (received-as.Message message) item e = ap (λ (one : Record). one .time) (said-made time (message .address) (message .what) item e .is)
+time-kept time (received-as.Message message) item e = ap (λ (one : Record). one .time) (said-made time (message .address) (weightSaid (message .what)) item e .is)
 time-kept time (received-as.Refused why) item e = ap (λ (one : Record). one .time) (refusal-made time why item e)
 
 pub noted-good : (time : ℕ) (role : Role) (heard : Heard) (item : Record) → notedHeard time role heard ≡ noted-as.Record item → (good item ≡ true) × (item .time ≡ time)

@@ -18,6 +18,8 @@ use Rattle.frame.proofs.Stuffing.{stuffed-append}
 use Rattle.line.specs.Listener.{State, seeking, delimited, inside, held, Heard, nothing, frame, refused, Listener, Step, fresh, step, keep, ended, tick, hearIn, hear, events, after}
 use Rattle.line.specs.Readers.{listening, freshReader}
 use Rattle.line.proofs.EveryStep.{every-event}
+use Rattle.weight.specs.declared.FourBytes.{FourBytes}
+use Rattle.weight.specs.Bytes.{fourBytes}
 use Rattle.codes.specs.declared.table.Load.{Load}
 use Rattle.records.specs.Records.{addressOf}
 use Rattle.weighing_log.specs.Heard.{codeOf}
@@ -193,10 +195,10 @@ frames-on-the-wire bytes wire kept body among =
 
 -- ---- a weighing and a weight
 
-reply-in : (bytes : List ℕ) (heard : Heard) (load : Load) (address : Address) (four : List ℕ) → List·Memᴰ heard (events fresh bytes)
+reply-in : (bytes : List ℕ) (heard : Heard) (load : Load) (address : Address) (four : FourBytes) → List·Memᴰ heard (events fresh bytes)
     → ReplyHeard heard load address four → ReplyIn bytes load address four
 reply-in bytes heard load address four among reply =
-    let body = bodyOf address (codeOf load) four in
+    let body = bodyOf address (codeOf load) (fourBytes four) in
     record {
       wire = reply .wire;
       stands =
@@ -220,10 +222,7 @@ unfolding listening
 listing-on-the-wire bytes small load address reading among =
     let found = listing-as-heard freshReader tt bytes small load address reading among in
     record {
-      w0 = found .such .w0;
-      w1 = found .such .w1;
-      w2 = found .such .w2;
-      con = found .such .con;
+      four = found .such .four;
       packed = found .such .packed;
       reply = reply-in bytes (found .event) load address _ (found .among) (found .such .reply);
     }

@@ -13,8 +13,9 @@ use Rattle.body.specs.declared.addresses.Address.the-variants.{Short}
 use Rattle.body.specs.Addresses.{legal, addressBytes}
 use Rattle.body.specs.Body.{unchecked, bodyOf}
 use Rattle.line.specs.Listener.{Heard, nothing, frame, refused}
+use Rattle.weight.specs.declared.FourBytes.{FourBytes}
 use Rattle.weight.specs.declared.Reading.{Reading}
-use Rattle.weight.specs.Bytes.{inRange, packedOf}
+use Rattle.weight.specs.Bytes.{inRange, bytesOf, packedOf}
 use Rattle.codes.specs.declared.table.Role.the-variants.{Request, Reply}
 use Rattle.codes.specs.declared.table.Load.{Load}
 use Rattle.codes.specs.declared.table.Load.the-variants.{Net, Gross}
@@ -66,19 +67,19 @@ e3 = frame 10 7 (0x01 ∷ 0xC3 ∷ 0x51 ∷ 0x02 ∷ 0x00 ∷ 0x01 ∷ 0xDE ∷ 
 abbrev at : ℕ → Heard → ℕ
 at place heard = getD (bodyIn heard) place 0
 
-reply-load : {w0 w1 w2 con : ℕ} → ReplyHeard e3 Net (Short 1) (w0 ∷ w1 ∷ w2 ∷ con ∷ []) → ⊥
+reply-load : {four : FourBytes} → ReplyHeard e3 Net (Short 1) four → ⊥
 unfolding bodyIn bodyOf unchecked addressBytes
 reply-load h = omega (arith, ap (at 1) (h .body))
 
-reply-address : {four : List ℕ} → ReplyHeard e3 Gross (Short 2) four → ⊥
+reply-address : {four : FourBytes} → ReplyHeard e3 Gross (Short 2) four → ⊥
 unfolding bodyIn bodyOf unchecked addressBytes
 reply-address h = omega (arith, ap (at 0) (h .body))
 
-reply-first : {w0 w1 w2 con : ℕ} → ReplyHeard e3 Gross (Short 1) (w0 ∷ w1 ∷ w2 ∷ con ∷ []) → w0 ≡ 0x51
+reply-first : {four : FourBytes} → ReplyHeard e3 Gross (Short 1) four → four .w0 ≡ 0x51
 unfolding bodyIn bodyOf unchecked addressBytes
 reply-first h = omega (arith, ap (at 2) (h .body))
 
-reply-status : {w0 w1 w2 con : ℕ} → ReplyHeard e3 Gross (Short 1) (w0 ∷ w1 ∷ w2 ∷ con ∷ []) → con ≡ 0x01
+reply-status : {four : FourBytes} → ReplyHeard e3 Gross (Short 1) four → four .con ≡ 0x01
 unfolding bodyIn bodyOf unchecked addressBytes
 reply-status h = omega (arith, ap (at 5) (h .body))
 
@@ -89,18 +90,18 @@ none-such : {heard : List Heard} → Among heard (λ (one : Heard). ⊥) → ⊥
 none-such found = found .such
 
 -- in the log: the kind, the role, the four bytes in their order
-weighing-of : (load : Load) (w0 w1 w2 con : ℕ) → WeighingHeard Reply (weighing 3 (Short 1) load w0 w1 w2 con) e3 → (load ≡ Gross) × ((w0 ≡ 0x51) × (con ≡ 0x01))
+weighing-of : (load : Load) (four : FourBytes) → WeighingHeard Reply (weighing 3 (Short 1) load four) e3 → (load ≡ Gross) × ((four .w0 ≡ 0x51) × (four .con ≡ 0x01))
 unfolding addressOf
-weighing-of load w0 w1 w2 con h = by-load load (h .load) (h .kind) (h .reply)
+weighing-of load four h = by-load load (h .load) (h .kind) (h .reply)
   where
-    by-load : (load mine : Load) → weighing 3 (Short 1) load w0 w1 w2 con .kind ≡ kindOf mine → ReplyHeard e3 mine (Short 1) (w0 ∷ w1 ∷ w2 ∷ con ∷ [])
-        → (load ≡ Gross) × ((w0 ≡ 0x51) × (con ≡ 0x01))
+    by-load : (load mine : Load) → weighing 3 (Short 1) load four .kind ≡ kindOf mine → ReplyHeard e3 mine (Short 1) four
+        → (load ≡ Gross) × ((four .w0 ≡ 0x51) × (four .con ≡ 0x01))
     by-load Gross Gross kind reply = (refl, (reply-first reply, reply-status reply))
     by-load Net Gross kind reply = absurd (omega arith)
     by-load load Net kind reply = absurd (reply-load reply)
 
-weighing-role : (load : Load) (w0 w1 w2 con : ℕ) → WeighingHeard Request (weighing 3 (Short 1) load w0 w1 w2 con) e3 → ⊥
-weighing-role load w0 w1 w2 con h = let was = h .as-reply in let clash : _≡_ {A = ℕ} 0 1 = cc in omega arith
+weighing-role : (load : Load) (four : FourBytes) → WeighingHeard Request (weighing 3 (Short 1) load four) e3 → ⊥
+weighing-role load four h = let was = h .as-reply in let clash : _≡_ {A = ℕ} 0 1 = cc in omega arith
 
 -- in the listing: a reading of 25.0 kg is not E3's
 abbrev other : Reading
@@ -110,8 +111,8 @@ listed-other : ListedHeard Gross (Short 1) other e3 → ⊥
 unfolding packedOf inRange
 listed-other h =
     let packed = h .packed in
-    let first : 0x50 ≡ h .w0 = cc in
-    omega (arith, reply-first (h .reply))
+    let same : bytesOf other ≡ h .four = cc in
+    omega (arith, ap (λ (four : FourBytes). four .w0) same, reply-first (h .reply))
 
 -- ---- what may be written
 

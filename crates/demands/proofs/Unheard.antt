@@ -1,27 +1,31 @@
 -- Shown: nothing that is no weighing ever reads as a weight: not a record of kind 3, not what crosses in place of a record or a message; and what
 -- is one does, with its own four bytes. Why: a record's kind is asked ahead of its bytes, and what crosses without a weight has no digits.
-use Prim.Native.Nat.{ℕ, _/_, _<_}
+use Prim.Native.Nat.{ℕ, _<_}
 use mathlib.Core.Path.{_≡_, _∙_, refl, sym}
 use mathlib.Core.Bool.{Bool, true, false, cond, and-eq-true-iff}
 use mathlib.Core.List.{List}
 use native.Mathlib.Omega.{arith}
 use borrow.Author.Tests.{ne-eqb, eqb-true}
-use lib.Dec.{eqb}
+use lib.Dec.{T, eqb}
+use lib.Pow.{areBytes}
 use Rattle.refusal.specs.declared.Refusal.the-variants.{FieldOutside, RecordBroken}
 use Rattle.refusal.specs.Numbers.{numberOf}
+use Rattle.weight.specs.declared.FourBytes.{FourBytes}
 use Rattle.weight.specs.declared.Reading.{Reading}
 use Rattle.weight.specs.declared.Read.{Read}
 use Rattle.weight.specs.declared.Read.the-variants as read-as
 use Rattle.weight.specs.declared.Value.the-variants as value-as
-use Rattle.weight.specs.declared.Packed.the-variants as packed-as
-use Rattle.weight.specs.Digits.{allDecimal, digitsOf, pairOf}
-use Rattle.weight.specs.Status.{readingOf, statusOf}
-use Rattle.weight.specs.Bytes.{inRange, readOf, readable, packedOf}
-use Rattle.weight.proofs.RoundTrip.{bytes-back, written-back}
+use Rattle.weight.specs.Digits.{allDecimal, digitsOf}
+use Rattle.weight.specs.Status.{readingOf}
+use Rattle.weight.specs.Bytes.{readOf, readable}
+use Rattle.weight.proofs.RoundTrip.{bytes-back}
 use Rattle.codes.specs.declared.table.Role.{Role}
-use Rattle.codes.specs.declared.table.Load.{Load}
+use Rattle.meaning.specs.declared.meaning.SaidWeight.{SaidWeight}
 use Rattle.meaning.specs.declared.meaning.What.{What}
 use Rattle.meaning.specs.declared.meaning.What.the-variants as says
+use Rattle.meaning.specs.declared.meaning.WeightOrNot.the-variants as said-as
+use Rattle.meaning.specs.Weights.{weightSaid}
+use Rattle.meaning.proofs.Saying.{says-that}
 use Rattle.message.specs.declared.reading.Message.{Message}
 use Rattle.message.specs.declared.reading.Received.{Received}
 use Rattle.message.specs.declared.reading.Received.the-variants as received-as
@@ -29,7 +33,7 @@ use Rattle.message.specs.Reading.{readMessage}
 use Rattle.records.specs.declared.records.Record.{Record}
 use Rattle.records.specs.declared.reading.RecordRead.{RecordRead}
 use Rattle.records.specs.declared.reading.RecordRead.the-variants as record-read-as
-use Rattle.records.specs.Records.{weighs, wasMet, readingIn, goodAddress, goodWeighing, good}
+use Rattle.records.specs.Records.{weighs, wasMet, weightBytes, readingIn, goodAddress, goodWeighing, good}
 use Rattle.records.specs.Weighings.{weightNoted}
 use Rattle.records.specs.Reading.{readRecord}
 use Rattle.records.proofs.Unweighed.{met-unheard, met-refusal, weighing-noted}
@@ -39,20 +43,19 @@ use Rattle.weighing_log.specs.declared.hearing.Noted.{Noted}
 use Rattle.weighing_log.specs.declared.hearing.Noted.the-variants as noted-as
 use Rattle.records.specs.Stepping.{stepped}
 use Rattle.weighing_log.specs.Hearing.{notedHeard}
+use Rattle.weighing_log.proofs.Weighings.{carries, spelled, status-small}
 use Rattle.line.specs.Readers.{heardAs}
 use Rattle.crossing.specs.declared.events.Given.{Given}
 use Rattle.crossing.specs.declared.events.Given.the-variants as given-as
 use Rattle.crossing.specs.declared.roles.Asked.{Asked}
 use Rattle.crossing.specs.declared.roles.Asked.the-variants as asked-as
 use Rattle.crossing.specs.declared.events.QuayEvent.{QuayEvent}
-use Rattle.crossing.specs.declared.weights.QuayWeight.{QuayWeight}
 use Rattle.crossing.specs.Events.{eventFrom}
 use Rattle.crossing.specs.Roles.{roleFrom}
-use Rattle.quay_weight.specs.Weights.{weightIn, valueOut, differenceRead}
+use Rattle.quay_weight.specs.Weights.{valueOut, differenceRead}
 use Rattle.quay_message.specs.Messages.{whatOut, receivedOut, messageIn}
 use Rattle.quay_log.specs.Records.{noDigits, recordOut, noRecord, readOut, steppedOut, notedOut, recordHeard}
 use Rattle.demands.specs.Unheard.{NotesNoWeight, NotesItsWeight, NoWeight, WeightOf, HandsOnNoWeight, HandsOnItsBytes, saysWeight, SaysItsWeight, NeverAWeight, AlwaysItsWeight}
-use Rattle.demands.proofs.WrittenDown.{said-legal}
 
 -- ---- the weight that a record notes
 
@@ -79,17 +82,15 @@ not-met item weighing = by-gross (eqb (item .kind) 1) refl
     by-gross true e = rw (eqb-true (item .kind) 1 e)
     by-gross false e = rw (eqb-true (item .kind) 2 (rw e at weighing))
 
--- four bytes that a reading packs to are its weight
-weight-of : (mine : Reading) (w0 w1 w2 con : ℕ) → packedOf mine ≡ packed-as.Bytes w0 w1 w2 con → WeightOf mine (record { w0 = w0; w1 = w1; w2 = w2; con = con })
-weight-of mine w0 w1 w2 con packs =
-    let read = written-back mine w0 w1 w2 con packs in
-    record {
-      bytes = packs;
-      reading = rw read;
-      value = rw read;
-      kilograms = rw read;
-      less = λ (other : Reading) (net : QuayWeight) (is : weightIn net ≡ read-as.Good other). rw (read, is);
-    }
+-- four bytes that were read, with a byte for CON, are the weight of their reading
+weight-of : (mine : Reading) (bytes : FourBytes) → bytes .con < 256 → readOf bytes ≡ read-as.Good mine → WeightOf mine bytes
+weight-of mine bytes small read = record {
+  bytes = bytes-back bytes small mine read;
+  reading = rw read;
+  value = rw read;
+  kilograms = rw read;
+  less = λ (other : Reading) (net : FourBytes) (is : readOf net ≡ read-as.Good other). rw (read, is);
+}
 
 hands-on : (item : Record) → weighs item ≡ true → HandsOnItsBytes item (recordOut item)
 hands-on item weighing = rw weighing
@@ -102,16 +103,14 @@ notes-its item is-good weighing small = by-read (readingIn item) refl (and-eq-tr
     by-read (read-as.Good reading) e can = record {
       reading = reading;
       noted = weighing-noted item is-good (not-met item weighing) ∙ e;
-      bytes = bytes-back (item .w0) (item .w1) (item .w2) (item .status) small reading e;
-      across =
-          rw (hands-on item weighing)
-          (weight-of reading (item .w0) (item .w1) (item .w2) (item .status) (bytes-back (item .w0) (item .w1) (item .w2) (item .status) small reading e));
+      bytes = bytes-back (weightBytes item) small reading e;
+      across = rw (hands-on item weighing) (weight-of reading (weightBytes item) small e);
     }
     by-read (read-as.Refused why) e can = let clash : _≡_ {A = Bool} true false = sym can in let z : _≡_ {A = ℕ} 0 1 = cc in absurd (omega arith)
 
 -- ---- bytes that read as no weight
 
-less-none : (gross : QuayWeight) → valueOut (differenceRead (weightIn gross) (read-as.Refused FieldOutside)) ≡ valueOut (value-as.Refused FieldOutside)
+less-none : (gross : FourBytes) → valueOut (differenceRead (readOf gross) (read-as.Refused FieldOutside)) ≡ valueOut (value-as.Refused FieldOutside)
 unfolding readOf
 less-none gross = by-digits (allDecimal (gross .w0) (gross .w1) (gross .w2))
   where
@@ -121,13 +120,13 @@ less-none gross = by-digits (allDecimal (gross .w0) (gross .w1) (gross .w2))
     by-digits true = refl
     by-digits false = refl
 
-no-weight : (weight : QuayWeight) → weightIn weight ≡ read-as.Refused FieldOutside → NoWeight weight
+no-weight : (weight : FourBytes) → readOf weight ≡ read-as.Refused FieldOutside → NoWeight weight
 no-weight weight e = record {
   reading = rw e;
   value = rw e;
   kilograms = rw e;
-  as-gross = λ (net : QuayWeight). rw e;
-  as-net = λ (gross : QuayWeight). rw e (less-none gross);
+  as-gross = λ (net : FourBytes). rw e;
+  as-net = λ (gross : FourBytes). rw e (less-none gross);
 }
 
 -- three bytes FF read as none, whatever stands for CON
@@ -163,7 +162,7 @@ heard-none time (asked-as.Role role) (given-as.Refused why) body = nothing-none 
 heard-none time (asked-as.Role role) (given-as.Event event) body = noted-none (notedHeard time role (heardAs event body))
 
 said-none : (what : What) → (whatOut what .says ≡ saysWeight → ⊥) → NoWeight (whatOut what .weight)
-said-none (says.Weight load reading) other = absurd (other refl)
+said-none (says.Weight said) other = absurd (other refl)
 said-none says.Nothing other = no-digits 255
 said-none (says.Serial serial) other = no-digits 255
 said-none (says.Number number) other = no-digits 255
@@ -194,17 +193,16 @@ never-a-weight = record {
 
 -- ---- the other half
 
--- a reading within its ranges has four bytes
-packs : (reading : Reading) → inRange reading ≡ true
-    → packedOf reading ≡ packed-as.Bytes (pairOf (reading .number)) (pairOf (reading .number / 100)) (pairOf (reading .number / 10000)) (statusOf reading)
-unfolding packedOf
-packs reading within = rw within
-
-says-its : (role : Role) (body : List ℕ) (message : Message) (load : Load) (reading : Reading) → readMessage role body ≡ received-as.Message message
-    → message .what ≡ says.Weight load reading → SaysItsWeight load reading (messageIn (asked-as.Role role) body .what)
-says-its role body message load reading was said =
-    let is = packs reading (said-legal role body message was load reading said) in
-    record { says = rw (was, said); kind = rw (was, said); weight = rw (was, said, is) (weight-of reading _ _ _ _ is) }
+says-its : (role : Role) (body : List ℕ) (message : Message) (said : SaidWeight) → T (areBytes body) → readMessage role body ≡ received-as.Message message
+    → weightSaid (message .what) ≡ said-as.Weight said → SaysItsWeight said body (messageIn (asked-as.Role role) body .what)
+says-its role body message said all was says =
+    let is = says-that (message .what) said says in
+    record {
+      says = rw (was, is);
+      kind = rw (was, is);
+      bytes = rw (was, is) (spelled role body message was said says);
+      weight = rw (was, is) (weight-of (said .reading) (said .bytes) (status-small role body message was said says all) (carries role body message was said says .reads));
+    }
 
 pub always-its-weight : AlwaysItsWeight
 always-its-weight = record {
@@ -212,5 +210,5 @@ always-its-weight = record {
   record-read = λ bytes item was weighing. rw was (hands-on item weighing);
   log-stepped = λ log place next item was weighing. rw was (hands-on item weighing);
   event-recorded = λ time number role event given body item asked is was weighing. rw (asked, is, was) (hands-on item weighing);
-  message-read = λ number role body message load reading asked was said. rw asked (says-its role body message load reading was said);
+  message-read = λ number role body message said all asked was says. rw asked (says-its role body message said all was says);
 }

@@ -8,7 +8,7 @@ use mathlib.Core.Logic.{_⊎_, inl, inr}
 use native.Mathlib.Omega.{arith}
 use lib.Dec.{T, ltb}
 use lib.Pow.{areBytes}
-use lib.ListN.{length, getD}
+use lib.ListN.{length}
 use Rattle.refusal.specs.declared.Verdict.the-variants.{Good}
 use Rattle.laws.proofs.ByteLists.{bytes-take}
 use Rattle.body.specs.declared.addresses.Address.{Address}
@@ -20,12 +20,16 @@ use Rattle.line.specs.Listener.{Heard, nothing, frame, refused, Listener, Step,
 use Rattle.line.specs.Readers.{view, keptOf}
 use Rattle.line.proofs.EveryStep.{every-step, every-told, every-event}
 use Rattle.line.proofs.Joined.{kept-front}
+use Rattle.weight.specs.declared.FourBytes.{FourBytes}
 use Rattle.weight.specs.declared.Reading.{Reading}
+use Rattle.weight.specs.Bytes.{fourBytes, packedOf}
 use Rattle.codes.specs.declared.table.Role.{Role}
 use Rattle.codes.specs.declared.table.Role.the-variants.{Reply}
 use Rattle.codes.specs.declared.table.Load.{Load}
-use Rattle.meaning.specs.declared.meaning.What.{What}
-use Rattle.meaning.specs.declared.meaning.What.the-variants as says
+use Rattle.meaning.specs.declared.meaning.SaidWeight.{SaidWeight}
+use Rattle.meaning.specs.declared.meaning.WeightOrNot.{WeightOrNot}
+use Rattle.meaning.specs.declared.meaning.WeightOrNot.the-variants as said-as
+use Rattle.meaning.specs.Weights.{weightSaid}
 use Rattle.message.specs.declared.reading.Received.{Received}
 use Rattle.message.specs.declared.reading.Received.the-variants as received-as
 use Rattle.message.specs.Reading.{readMessage}
@@ -40,7 +44,6 @@ use Rattle.entries.specs.declared.entries.Entry.the-variants.{Weight}
 use Rattle.entries.specs.Entries.{messageEntry, entryOf, entryHeard}
 use Rattle.entries.proofs.Handed.{handed-out}
 use Rattle.listing.proofs.Handed.{lists-the-same}
-use Rattle.demands.proofs.Entries.{Lists, a-weight, by-code, lists}
 use Rattle.demands.specs.Weighings.{ReplyHeard, Among, WeighingHeard, NotedAsHeard, noteThen, recordsFrom, LogAsHeard, ListedHeard, ListedAsHeard, ListingAsHeard, CheckedOnce}
 
 -- ---- what a line hands out
@@ -95,47 +98,47 @@ all-whole reader all bytes small =
 -- ---- one event
 
 -- a good body is its parts again
-reply : (wire kept : ℕ) (body : List ℕ) → Whole (frame wire kept body) → {load : Load} {address : Address} {four : List ℕ} → addressIn body ≡ address
-    → codeIn body ≡ codeOf load → dataIn body ≡ four → ReplyHeard (frame wire kept body) load address four
+reply : (wire kept : ℕ) (body : List ℕ) → Whole (frame wire kept body) → {load : Load} {address : Address} {four : FourBytes} → addressIn body ≡ address
+    → codeIn body ≡ codeOf load → fourBytes four ≡ dataIn body → ReplyHeard (frame wire kept body) load address four
 reply wire kept body (all, good) is-address is-code is-data =
-    record { wire = wire; kept = kept; body = ap (frame wire kept) (sym (rebuilt body all good) ∙ rw (is-address, is-code, is-data)) }
+    record { wire = wire; kept = kept; body = ap (frame wire kept) (sym (rebuilt body all good) ∙ rw (is-address, is-code, ← is-data)) }
 
 noted : (heard : Heard) → Whole heard → (time : ℕ) (role : Role) (item : Record) → notedHeard time role heard ≡ noted-as.Record item → (item .kind ≡ 3 → ⊥)
     → WeighingHeard role item heard
 noted nothing is-whole time role item e weighing = let clash : _≡_ {A = ℕ} 0 1 = cc in absurd (omega arith)
 noted (frame wire kept body) is-whole time role item e weighing =
-    let was = weighing-heard role time body (is-whole .0) item e weighing in
+    let was = weighing-heard role time body item e weighing in
     record {
       load = was .load;
       kind = was .kind;
       as-reply = was .reply;
-      reply = reply wire kept body is-whole (sym (was .address)) (was .code) (sym (was .weight));
+      reply = reply wire kept body is-whole (sym (was .address)) (was .code) (was .weight);
     }
 noted (refused why wire kept) is-whole time role item e weighing = absurd (weighing (refusal-kind time why item e))
 
 -- an entry is a weight only where a message says one
 module _ (load : Load) (address : Address) (reading : Reading) where
-  says-weight : (from : Address) (code : ℕ) (what : What) → messageEntry from code what ≡ Weight load address reading
-      → (what ≡ says.Weight load reading) × (from ≡ address)
-  says-weight from code what e = by-lists (lists from code what)
-    where
-      by-lists : Lists from code what → (what ≡ says.Weight load reading) × (from ≡ address)
-      by-lists (a-weight mine other said) = let same : Weight mine from other ≡ Weight load address reading = rw said at e in (cc, cc)
-      by-lists (by-code other) = (cc, cc)
+  record SaysIt (weight : WeightOrNot) (from : Address) : Type 0 where
+    said : SaidWeight
+    says : weight ≡ said-as.Weight said
+    same-load : said .load ≡ load
+    same-reading : said .reading ≡ reading
+    same-address : from ≡ address
+
+  says-weight : (from : Address) (code : ℕ) (weight : WeightOrNot) → messageEntry from code weight ≡ Weight load address reading → SaysIt weight from
+  says-weight from code (said-as.Weight said) e = record { said = said; says = refl; same-load = cc; same-reading = cc; same-address = cc }
+  says-weight from code said-as.NoWeight e = let clash : _≡_ {A = ℕ} 0 1 = cc in absurd (omega arith)
 
   read-listed : (wire kept : ℕ) (body : List ℕ) → Whole (frame wire kept body) → (received : Received) → readMessage Reply body ≡ received
       → entryOf received ≡ Weight load address reading → ListedHeard load address reading (frame wire kept body)
   read-listed wire kept body is-whole (received-as.Message message) was e =
-      let (said, from) = says-weight (message .address) (message .code) (message .what) e in
+      let it = says-weight (message .address) (message .code) (weightSaid (message .what)) e in
       record {
-        w0 = getD (dataIn body) 0 0;
-        w1 = getD (dataIn body) 1 0;
-        w2 = getD (dataIn body) 2 0;
-        con = getD (dataIn body) 3 0;
-        packed = packed-back Reply body message was load reading said (is-whole .0);
+        four = it .said .bytes;
+        packed = ap packedOf (sym (it .same-reading)) ∙ packed-back Reply body message was (it .said) (it .says) (is-whole .0);
         reply =
-            reply wire kept body is-whole (sym (address-is Reply body message was) ∙ from) (said-code Reply body message was load reading said .1)
-            (spelled Reply body message was load reading said);
+            reply wire kept body is-whole (sym (address-is Reply body message was) ∙ it .same-address)
+            (said-code Reply body message was (it .said) (it .says) .1 ∙ ap codeOf (it .same-load)) (spelled Reply body message was (it .said) (it .says));
       }
   read-listed wire kept body is-whole (received-as.Refused why) was e = let clash : _≡_ {A = ℕ} 0 1 = cc in absurd (omega arith)
 

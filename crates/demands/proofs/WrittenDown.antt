@@ -12,17 +12,18 @@ use Rattle.refusal.specs.declared.Refusal.the-variants.{FieldOutside}
 use Rattle.refusal.specs.declared.Verdict.the-variants.{Good}
 use Rattle.room.specs.Writing.{wrote}
 use Rattle.line.specs.Listener.{Heard, nothing, frame, refused, hear}
+use Rattle.weight.specs.declared.FourBytes.{FourBytes}
 use Rattle.weight.specs.declared.Reading.{Reading}
 use Rattle.weight.specs.declared.Read.the-variants as read-as
 use Rattle.weight.specs.Digits.{allDecimal, digitsOf}
 use Rattle.weight.specs.Status.{readingOf}
-use Rattle.weight.specs.Bytes.{inRange, readOf, packedOf}
+use Rattle.weight.specs.Bytes.{inRange, readOf}
 use Rattle.weight.proofs.RoundTrip.{legal-of-read}
 use Rattle.codes.specs.declared.table.Role.{Role}
 use Rattle.codes.specs.declared.table.Role.the-variants.{Reply}
-use Rattle.codes.specs.declared.table.Load.{Load}
-use Rattle.meaning.specs.declared.meaning.What.the-variants as says
-use Rattle.meaning.specs.Fields.{readIn}
+use Rattle.meaning.specs.declared.meaning.WeightOrNot.{WeightOrNot}
+use Rattle.meaning.specs.declared.meaning.WeightOrNot.the-variants as said-as
+use Rattle.meaning.specs.Weights.{weightSaid}
 use Rattle.message.specs.declared.reading.Message.{Message}
 use Rattle.message.specs.declared.reading.Received.{Received}
 use Rattle.message.specs.declared.reading.Received.the-variants as received-as
@@ -33,14 +34,12 @@ use Rattle.records.specs.Writing.{judgedRecord, writtenRecord}
 use Rattle.weighing_log.specs.declared.hearing.Noted.the-variants as noted-as
 use Rattle.weighing_log.specs.Hearing.{recordOf, notedHeard}
 use Rattle.weighing_log.proofs.Heard.{met-noted as met-made}
-use Rattle.weighing_log.proofs.Others.{Saying, a-weight, no-weight, saying}
-use Rattle.weighing_log.proofs.Weighings.{address-legal, row-is}
+use Rattle.weighing_log.proofs.Weighings.{address-legal, carries, always-noted}
 use Rattle.entries.specs.declared.entries.Entry.{Entry}
 use Rattle.entries.specs.declared.entries.Entry.the-variants as entry-as
-use Rattle.entries.specs.Entries.{entryOf, entryHeard, sound}
+use Rattle.entries.specs.Entries.{messageEntry, entryOf, entryHeard, sound}
 use Rattle.listing.specs.Lines.{lineOf}
 use Rattle.listing.specs.Writing.{writtenLine}
-use Rattle.demands.proofs.Entries.{Lists, a-weight as lists-weight, by-code, lists}
 use Rattle.demands.proofs.Logs.{noted-good}
 use Rattle.demands.proofs.Noted.{Met, Told, line-told}
 use Rattle.message.proofs.Refusals.{message-refuses}
@@ -49,51 +48,34 @@ use Rattle.demands.specs.WrittenDown.{Sound, AlwaysWritten}
 -- ---- a message that was read
 
 -- a reading that was read lies within its ranges
-read-legal : (w0 w1 w2 con : ℕ) (reading : Reading) → readOf w0 w1 w2 con ≡ read-as.Good reading → inRange reading ≡ true
+read-legal : (bytes : FourBytes) (reading : Reading) → readOf bytes ≡ read-as.Good reading → inRange reading ≡ true
 unfolding readOf
-read-legal w0 w1 w2 con reading = by-decimal (allDecimal w0 w1 w2) refl
+read-legal bytes reading = by-decimal (allDecimal (bytes .w0) (bytes .w1) (bytes .w2)) refl
   where
-    by-decimal : (decimal : Bool) → allDecimal w0 w1 w2 ≡ decimal → cond decimal (read-as.Good (readingOf (digitsOf w0 w1 w2) con)) (read-as.Refused FieldOutside) ≡ read-as.Good reading
+    shown : Reading
+    shown = readingOf (digitsOf (bytes .w0) (bytes .w1) (bytes .w2)) (bytes .con)
+
+    by-decimal : (decimal : Bool) → allDecimal (bytes .w0) (bytes .w1) (bytes .w2) ≡ decimal → cond decimal (read-as.Good shown) (read-as.Refused FieldOutside) ≡ read-as.Good reading
         → inRange reading ≡ true
-    by-decimal true good e = let same : reading ≡ readingOf (digitsOf w0 w1 w2) con = cc in rw same (legal-of-read w0 w1 w2 con good)
+    by-decimal true good e = let same : reading ≡ shown = cc in rw same (legal-of-read (bytes .w0) (bytes .w1) (bytes .w2) (bytes .con) good)
     by-decimal false good e = cc
 
-module _ (role : Role) (body : List ℕ) (message : Message) (was : readMessage role body ≡ received-as.Message message) where
-  pub said-legal : (load : Load) (reading : Reading) → message .what ≡ says.Weight load reading → inRange reading ≡ true
-  unfolding readIn
-  said-legal load reading said = read-legal _ _ _ _ reading (row-is role body message was load reading said .1)
-
+module _ (body : List ℕ) (message : Message) (was : readMessage Reply body ≡ received-as.Message message) where
   message-sound : Sound (entryOf (received-as.Message message))
-  message-sound = by-lists (lists (message .address) (message .code) (message .what))
+  message-sound = by-saying (weightSaid (message .what)) refl
     where
-      by-lists : Lists (message .address) (message .code) (message .what) → Sound (entryOf (received-as.Message message))
-      by-lists (lists-weight load reading said) = rw said (address-legal role body message was, said-legal load reading said)
-      by-lists (by-code is) = rw is (address-legal role body message was)
-
-  message-noted : (time : ℕ) (why : Refusal) → recordOf time (received-as.Message message) ≡ noted-as.Refused why → ⊥
-  unfolding recordOf packedOf
-  message-noted time why e = by-saying (saying (message .what))
-    where
-      by-saying : Saying (message .what) → ⊥
-      by-saying (a-weight load reading said) =
-          let made = rw (said, said-legal load reading said, address-legal role body message was) at e in
-          let clash : _≡_ {A = ℕ} 0 1 = cc in
-          omega arith
-      by-saying (no-weight none) = let nothing = none time (message .address) in let clash : _≡_ {A = ℕ} 0 1 = cc in omega arith
+      by-saying : (weight : WeightOrNot) → weightSaid (message .what) ≡ weight → Sound (messageEntry (message .address) (message .code) weight)
+      by-saying (said-as.Weight said) says = (address-legal Reply body message was, read-legal (said .bytes) (said .reading) (carries Reply body message was said says .reads))
+      by-saying said-as.NoWeight says = address-legal Reply body message was
 
 -- ---- a body, and an event
 
 body-sound : (body : List ℕ) (received : Received) → readMessage Reply body ≡ received → Sound (entryOf received)
-body-sound body (received-as.Message message) was = message-sound Reply body message was
+body-sound body (received-as.Message message) was = message-sound body message was
 body-sound body (received-as.Refused why) was = message-refuses Met refl refl refl refl refl refl refl Reply body why was
 
 met-noted : (time : ℕ) (met why : Refusal) → Met met → recordOf time (received-as.Refused met) ≡ noted-as.Refused why → ⊥
 met-noted time met why is-met e = let made = met-made time met is-met in let clash : _≡_ {A = ℕ} 0 1 = cc in omega arith
-
-body-noted : (role : Role) (body : List ℕ) (received : Received) → readMessage role body ≡ received → (time : ℕ) (why : Refusal)
-    → recordOf time received ≡ noted-as.Refused why → ⊥
-body-noted role body (received-as.Message message) was time why e = message-noted role body message was time why e
-body-noted role body (received-as.Refused met) was time why e = met-noted time met why (message-refuses Met refl refl refl refl refl refl refl role body met was) e
 
 event-sound : (heard : Heard) → Told heard → Sound (entryHeard heard)
 unfolding entryHeard
@@ -103,7 +85,7 @@ event-sound (refused why wire kept) met = met
 
 event-noted : (heard : Heard) → Told heard → (time : ℕ) (role : Role) (why : Refusal) → notedHeard time role heard ≡ noted-as.Refused why → ⊥
 event-noted nothing met time role why e = let clash : _≡_ {A = ℕ} 0 1 = cc in omega arith
-event-noted (frame wire kept body) met time role why e = body-noted role body (readMessage role body) refl time why e
+event-noted (frame wire kept body) met time role why e = always-noted role time body why e
 event-noted (refused given wire kept) met time role why e = met-noted time given why met e
 
 -- what is sound is refused by 9 alone

@@ -17,6 +17,7 @@ use Rattle.weight.specs.Tenths.{valueOf}
 use Rattle.codes.specs.declared.table.Role.{Role}
 use Rattle.codes.specs.declared.table.Role.the-variants.{Request, Reply}
 use Rattle.codes.specs.declared.table.Load.the-variants.{Net, Gross}
+use Rattle.meaning.specs.declared.meaning.SaidWeight.{SaidWeight}
 use Rattle.meaning.specs.declared.meaning.What.{What}
 use Rattle.meaning.specs.declared.meaning.What.the-variants as says
 use Rattle.message.specs.declared.reading.Received.{Received}
@@ -78,6 +79,21 @@ zeros count check = 0x01 ∷ (replicate count 0 ++ (check ∷ []))
 abbrev pub oneZeroMore : List ℕ
 oneZeroMore = zeros 254 0x01
 
+-- "gross, 25.1 kg, unsettled", and "net, minus 0.5 kg, settled", each with its four bytes
+abbrev pub e3 : SaidWeight
+e3 = record {
+  load = Gross;
+  bytes = record { w0 = 0x51; w1 = 0x02; w2 = 0x00; con = 0x01 };
+  reading = record { minus = false; number = 251; point = 1; bit6 = false; bit5 = false; settled = false; overload = false };
+}
+
+abbrev pub e4 : SaidWeight
+e4 = record {
+  load = Net;
+  bytes = record { w0 = 0x05; w1 = 0x00; w2 = 0x00; con = 0x91 };
+  reading = record { minus = true; number = 5; point = 1; bit6 = false; bit5 = false; settled = true; overload = false };
+}
+
 abbrev pub examples : List Example
 examples =
     record { bytes = 0xFF ∷ 0x01 ∷ 0xC3 ∷ 0xE3 ∷ 0xFF ∷ 0xFF ∷ []; heard = frame 6 3 (0x01 ∷ 0xC3 ∷ 0xE3 ∷ []) ∷ []; role = Request; said = from1 0xC3 2 says.Nothing ∷ []; values = [] }
@@ -86,14 +102,14 @@ examples =
       bytes = 0xFF ∷ 0x01 ∷ 0xC3 ∷ 0x51 ∷ 0x02 ∷ 0x00 ∷ 0x01 ∷ 0xDE ∷ 0xFF ∷ 0xFF ∷ [];
       heard = frame 10 7 (0x01 ∷ 0xC3 ∷ 0x51 ∷ 0x02 ∷ 0x00 ∷ 0x01 ∷ 0xDE ∷ []) ∷ [];
       role = Reply;
-      said = from1 0xC3 6 (says.Weight Gross (record { minus = false; number = 251; point = 1; bit6 = false; bit5 = false; settled = false; overload = false })) ∷ [];
+      said = from1 0xC3 6 (says.Weight e3) ∷ [];
       values = Tenths (pos 251_000_000) ∷ [];
     }
     ∷ record {
       bytes = 0xFF ∷ 0x01 ∷ 0xC2 ∷ 0x05 ∷ 0x00 ∷ 0x00 ∷ 0x91 ∷ 0x32 ∷ 0xFF ∷ 0xFF ∷ [];
       heard = frame 10 7 (0x01 ∷ 0xC2 ∷ 0x05 ∷ 0x00 ∷ 0x00 ∷ 0x91 ∷ 0x32 ∷ []) ∷ [];
       role = Reply;
-      said = from1 0xC2 6 (says.Weight Net (record { minus = true; number = 5; point = 1; bit6 = false; bit5 = false; settled = true; overload = false })) ∷ [];
+      said = from1 0xC2 6 (says.Weight e4) ∷ [];
       values = Tenths (negsuc 4_999_999) ∷ [];
     }
     ∷ record {

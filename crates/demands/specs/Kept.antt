@@ -3,15 +3,16 @@
 use Prim.Native.Nat.{ℕ, _<_}
 use mathlib.Core.Path.{_≡_}
 use mathlib.Core.Bool.{true}
-use mathlib.Core.List.{List, [], _∷_, List·Memᴰ}
+use mathlib.Core.List.{List, List·Memᴰ}
 use Rattle.body.specs.declared.addresses.Address.{Address}
 use Rattle.body.specs.Addresses.{legal}
 use Rattle.body.specs.Body.{bodyOf}
 use Rattle.line.specs.Listener.{Heard, frame}
+use Rattle.weight.specs.declared.FourBytes.{FourBytes}
 use Rattle.weight.specs.declared.Reading.{Reading}
 use Rattle.weight.specs.declared.Packed.the-variants as packed-as
 use Rattle.weight.specs.Digits.{allDecimal}
-use Rattle.weight.specs.Bytes.{packedOf}
+use Rattle.weight.specs.Bytes.{fourBytes, packedOf}
 use Rattle.codes.specs.declared.table.Role.{Role}
 use Rattle.codes.specs.declared.table.Role.the-variants.{Reply}
 use Rattle.codes.specs.declared.table.Load.{Load}
@@ -24,28 +25,28 @@ use Rattle.entries.specs.Entries.{entryHeard}
 use Rattle.demands.specs.Weighings.{recordsHeard}
 
 -- "C2 net, C3 gross", "W0 W1 W2 CON": a frame with a legal address, "good decimal" weight bytes, and a status byte, which is any byte
-pub record WeightReply (address : Address) (w0 w1 w2 con : ℕ) : Type 0 where
+pub record WeightReply (address : Address) (four : FourBytes) : Type 0 where
   pub from : legal address ≡ true
-  pub digits : allDecimal w0 w1 w2 ≡ true
-  pub status : con < 256
+  pub digits : allDecimal (four .w0) (four .w1) (four .w2) ≡ true
+  pub status : four .con < 256
 
-abbrev pub replyFrame : ℕ → ℕ → Address → Load → (w0 w1 w2 con : ℕ) → Heard
-replyFrame wire kept address load w0 w1 w2 con = frame wire kept (bodyOf address (codeOf load) (w0 ∷ w1 ∷ w2 ∷ con ∷ []))
+abbrev pub replyFrame : ℕ → ℕ → Address → Load → FourBytes → Heard
+replyFrame wire kept address load four = frame wire kept (bodyOf address (codeOf load) (fourBytes four))
 
 -- in the listing it is a weight from its address, of the reading that packs to its four bytes
-pub record ListedWeight (heard : Heard) (address : Address) (load : Load) (w0 w1 w2 con : ℕ) : Type 0 where
+pub record ListedWeight (heard : Heard) (address : Address) (load : Load) (four : FourBytes) : Type 0 where
   pub reading : Reading
-  pub packed : packedOf reading ≡ packed-as.Bytes w0 w1 w2 con
+  pub packed : packedOf reading ≡ packed-as.Bytes four
   pub listed : entryHeard heard ≡ entry-as.Weight load address reading
 
-pub record KeptWeight (heard : Heard) (address : Address) (load : Load) (w0 w1 w2 con : ℕ) : Type 0 where
-  pub noted : (time : ℕ) → notedHeard time Reply heard ≡ noted-as.Record (weighing time address load w0 w1 w2 con)
-  pub listed : ListedWeight heard address load w0 w1 w2 con
+pub record KeptWeight (heard : Heard) (address : Address) (load : Load) (four : FourBytes) : Type 0 where
+  pub noted : (time : ℕ) → notedHeard time Reply heard ≡ noted-as.Record (weighing time address load four)
+  pub listed : ListedWeight heard address load four
 
 abbrev pub WeightsKept : Type 0
 WeightsKept =
-    (wire kept : ℕ) (address : Address) (load : Load) (w0 w1 w2 con : ℕ) → WeightReply address w0 w1 w2 con
-    → KeptWeight (replyFrame wire kept address load w0 w1 w2 con) address load w0 w1 w2 con
+    (wire kept : ℕ) (address : Address) (load : Load) (four : FourBytes) → WeightReply address four
+    → KeptWeight (replyFrame wire kept address load four) address load four
 
 -- ---- all that a line gives
 

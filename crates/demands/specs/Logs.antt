@@ -12,7 +12,7 @@ use Rattle.codes.specs.declared.table.Role.the-variants.{Reply}
 use Rattle.codes.specs.declared.table.Load.the-variants.{Net, Gross}
 use Rattle.weighing_log.specs.Hearing.{weighing, metOnLine}
 use Rattle.records.specs.Stepping.{Log, wholeLog, bytesOfLog, Steps}
-use Rattle.demands.specs.Examples.{Example, examples}
+use Rattle.demands.specs.Examples.{Example, e3, e4, examples}
 use Rattle.demands.specs.Weighings.{recordsHeard}
 
 -- a whole log is the bytes of its records, one behind the other, and nothing else
@@ -38,5 +38,5 @@ LineLogWhole =
 abbrev pub ExamplesNoted : Type 0
 ExamplesNoted =
     recordsHeard (λ (number : ℕ). number) Reply (flatten (map (λ (example : Example). example .heard) examples))
-    ≡ metOnLine 1 7 ∷ metOnLine 2 7 ∷ weighing 3 (Short 1) Gross 0x51 0x02 0x00 0x01 ∷ weighing 4 (Short 1) Net 0x05 0x00 0x00 0x91 ∷ metOnLine 6 4
+    ≡ metOnLine 1 7 ∷ metOnLine 2 7 ∷ weighing 3 (Short 1) Gross (e3 .bytes) ∷ weighing 4 (Short 1) Net (e4 .bytes) ∷ metOnLine 6 4
     ∷ metOnLine 7 1 ∷ metOnLine 8 3 ∷ metOnLine 9 6 ∷ metOnLine 10 2 ∷ []

@@ -10,14 +10,15 @@ use Rattle.body.specs.declared.addresses.Address.{Address}
 use Rattle.body.specs.Body.{bodyOf}
 use Rattle.frame.specs.Stuffing.{framed}
 use Rattle.line.specs.Listener.{frame, fresh, hear, events, after}
+use Rattle.weight.specs.declared.FourBytes.{FourBytes}
 use Rattle.weight.specs.declared.Reading.{Reading}
 use Rattle.weight.specs.declared.Packed.the-variants as packed-as
-use Rattle.weight.specs.Bytes.{packedOf}
+use Rattle.weight.specs.Bytes.{fourBytes, packedOf}
 use Rattle.codes.specs.declared.table.Role.{Role}
 use Rattle.codes.specs.declared.table.Role.the-variants.{Reply}
 use Rattle.codes.specs.declared.table.Load.{Load}
 use Rattle.records.specs.declared.records.Record.{Record}
-use Rattle.records.specs.Records.{kindOf, metKind, addressOf}
+use Rattle.records.specs.Records.{kindOf, metKind, addressOf, weightBytes}
 use Rattle.weighing_log.specs.Heard.{codeOf}
 use Rattle.entries.specs.declared.entries.Entry.the-variants.{Weight}
 use Rattle.entries.specs.Entries.{entryHeard}
@@ -47,16 +48,16 @@ FramesOnTheWire = (bytes : List ℕ) (wire kept : ℕ) (body : List ℕ) → Lis
 -- ---- "A weight that wasn't heard must never look like a weight of nothing", down to the bytes
 
 -- a reply C2 or C3 with these four bytes stands in some bytes
-pub record ReplyIn (bytes : List ℕ) (load : Load) (address : Address) (four : List ℕ) : Type 0 where
+pub record ReplyIn (bytes : List ℕ) (load : Load) (address : Address) (four : FourBytes) : Type 0 where
   pub wire : ℕ
-  pub stands : StandsIn bytes wire (bodyOf address (codeOf load) four)
+  pub stands : StandsIn bytes wire (bodyOf address (codeOf load) (fourBytes four))
 
 -- no weighing in the log that a line makes, unless its reply stands in the bytes taken
 pub record WeighedIn (bytes : List ℕ) (role : Role) (item : Record) : Type 0 where
   pub load : Load
   pub kind : item .kind ≡ kindOf load
   pub as-reply : role ≡ Reply
-  pub reply : ReplyIn bytes load (addressOf item) (item .w0 ∷ item .w1 ∷ item .w2 ∷ item .status ∷ [])
+  pub reply : ReplyIn bytes load (addressOf item) (weightBytes item)
 
 abbrev pub LogOnTheWire : Type 0
 LogOnTheWire =
@@ -65,12 +66,9 @@ LogOnTheWire =
 
 -- and no weight in its listing
 pub record ListedIn (bytes : List ℕ) (load : Load) (address : Address) (reading : Reading) : Type 0 where
-  pub w0 : ℕ
-  pub w1 : ℕ
-  pub w2 : ℕ
-  pub con : ℕ
-  pub packed : packedOf reading ≡ packed-as.Bytes w0 w1 w2 con
-  pub reply : ReplyIn bytes load address (w0 ∷ w1 ∷ w2 ∷ con ∷ [])
+  pub four : FourBytes
+  pub packed : packedOf reading ≡ packed-as.Bytes four
+  pub reply : ReplyIn bytes load address four
 
 abbrev pub ListingOnTheWire : Type 0
 ListingOnTheWire =

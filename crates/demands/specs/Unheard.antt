@@ -5,30 +5,35 @@ use Prim.Native.Nat.{ℕ, _<_}
 use mathlib.Core.Path.{_≡_}
 use mathlib.Core.Bool.{true, false}
 use mathlib.Core.List.{List}
+use lib.Dec.{T}
+use lib.Pow.{areBytes}
+use Rattle.body.specs.Body.{dataIn}
 use Rattle.refusal.specs.declared.Refusal.{Refusal}
 use Rattle.refusal.specs.declared.Refusal.the-variants.{FieldOutside}
 use Rattle.refusal.specs.Numbers.{numberOf}
+use Rattle.weight.specs.declared.FourBytes.{FourBytes}
 use Rattle.weight.specs.declared.Reading.{Reading}
 use Rattle.weight.specs.declared.Read.the-variants as read-as
 use Rattle.weight.specs.declared.Value.the-variants as value-as
 use Rattle.weight.specs.declared.Packed.the-variants as packed-as
-use Rattle.weight.specs.Bytes.{packedOf}
+use Rattle.weight.specs.Bytes.{fourBytes, readOf, packedOf}
 use Rattle.weight.specs.Tenths.{valueOf, differenceOf}
 use Rattle.kilograms.specs.declared.Kilograms.the-variants as kilograms-as
 use Rattle.kilograms.specs.Rounded.{kilogramsOf}
 use Rattle.line.specs.declared.places.Event.{Event}
 use Rattle.line.specs.Readers.{heardAs}
 use Rattle.codes.specs.declared.table.Role.{Role}
-use Rattle.codes.specs.declared.table.Load.{Load}
 use Rattle.codes.specs.declared.table.Load.the-variants.{Net, Gross}
-use Rattle.meaning.specs.declared.meaning.What.the-variants as says
+use Rattle.meaning.specs.declared.meaning.SaidWeight.{SaidWeight}
+use Rattle.meaning.specs.declared.meaning.WeightOrNot.the-variants as said-as
+use Rattle.meaning.specs.Weights.{weightSaid}
 use Rattle.message.specs.declared.reading.Message.{Message}
 use Rattle.message.specs.declared.reading.Received.the-variants as received-as
 use Rattle.message.specs.Reading.{readMessage}
 use Rattle.records.specs.declared.records.Record.{Record}
 use Rattle.records.specs.declared.reading.RecordRead.the-variants as record-read-as
 use Rattle.records.specs.declared.stepping.Stepped.the-variants as stepped-as
-use Rattle.records.specs.Records.{kindOf, weighs, wasMet, good}
+use Rattle.records.specs.Records.{kindOf, weighs, wasMet, weightBytes, good}
 use Rattle.records.specs.Reading.{readRecord}
 use Rattle.records.specs.Weighings.{weightNoted}
 use Rattle.records.specs.Stepping.{stepped}
@@ -37,10 +42,9 @@ use Rattle.weighing_log.specs.Hearing.{notedHeard}
 use Rattle.crossing.specs.declared.events.QuayEvent.{QuayEvent}
 use Rattle.crossing.specs.declared.events.Given.the-variants as given-as
 use Rattle.crossing.specs.declared.roles.Asked.the-variants as asked-as
-use Rattle.crossing.specs.declared.weights.QuayWeight.{QuayWeight}
 use Rattle.crossing.specs.Events.{eventFrom}
 use Rattle.crossing.specs.Roles.{roleFrom}
-use Rattle.quay_weight.specs.Weights.{weightIn, goodReading, noReading, readingOut, valueOut, valueRead, differenceRead, kilogramsOut, kilogramsRead}
+use Rattle.quay_weight.specs.Weights.{goodReading, noReading, readingOut, valueOut, valueRead, differenceRead, kilogramsOut, kilogramsRead}
 use Rattle.quay_message.specs.declared.messages.QuayWhat.{QuayWhat}
 use Rattle.quay_message.specs.Messages.{messageIn}
 use Rattle.quay_log.specs.declared.logs.QuayRecord.{QuayRecord}
@@ -56,24 +60,24 @@ pub record NotesNoWeight (item : Record) : Type 0 where
 -- ---- across: four bytes that a caller hands on as a weight
 
 -- the four functions on weights refuse them, by fields that no weight has
-pub record NoWeight (weight : QuayWeight) : Type 0 where
-  pub reading : readingOut (weightIn weight) ≡ noReading FieldOutside
-  pub value : valueOut (valueRead (weightIn weight)) ≡ valueOut (value-as.Refused FieldOutside)
-  pub kilograms : kilogramsOut (kilogramsRead (weightIn weight)) ≡ kilogramsOut (kilograms-as.Refused FieldOutside)
-  pub as-gross : (net : QuayWeight) → valueOut (differenceRead (weightIn weight) (weightIn net)) ≡ valueOut (value-as.Refused FieldOutside)
-  pub as-net : (gross : QuayWeight) → valueOut (differenceRead (weightIn gross) (weightIn weight)) ≡ valueOut (value-as.Refused FieldOutside)
+pub record NoWeight (weight : FourBytes) : Type 0 where
+  pub reading : readingOut (readOf weight) ≡ noReading FieldOutside
+  pub value : valueOut (valueRead (readOf weight)) ≡ valueOut (value-as.Refused FieldOutside)
+  pub kilograms : kilogramsOut (kilogramsRead (readOf weight)) ≡ kilogramsOut (kilograms-as.Refused FieldOutside)
+  pub as-gross : (net : FourBytes) → valueOut (differenceRead (readOf weight) (readOf net)) ≡ valueOut (value-as.Refused FieldOutside)
+  pub as-net : (gross : FourBytes) → valueOut (differenceRead (readOf gross) (readOf weight)) ≡ valueOut (value-as.Refused FieldOutside)
 
 -- or each answers for one reading, whose four bytes they are
-pub record WeightOf (mine : Reading) (weight : QuayWeight) : Type 0 where
-  pub bytes : packedOf mine ≡ packed-as.Bytes (weight .w0) (weight .w1) (weight .w2) (weight .con)
-  pub reading : readingOut (weightIn weight) ≡ goodReading mine
-  pub value : valueOut (valueRead (weightIn weight)) ≡ valueOut (valueOf mine)
-  pub kilograms : kilogramsOut (kilogramsRead (weightIn weight)) ≡ kilogramsOut (kilogramsOf mine)
-  pub less : (other : Reading) (net : QuayWeight) → weightIn net ≡ read-as.Good other
-      → valueOut (differenceRead (weightIn weight) (weightIn net)) ≡ valueOut (differenceOf mine other)
+pub record WeightOf (mine : Reading) (weight : FourBytes) : Type 0 where
+  pub bytes : packedOf mine ≡ packed-as.Bytes weight
+  pub reading : readingOut (readOf weight) ≡ goodReading mine
+  pub value : valueOut (valueRead (readOf weight)) ≡ valueOut (valueOf mine)
+  pub kilograms : kilogramsOut (kilogramsRead (readOf weight)) ≡ kilogramsOut (kilogramsOf mine)
+  pub less : (other : Reading) (net : FourBytes) → readOf net ≡ read-as.Good other
+      → valueOut (differenceRead (readOf weight) (readOf net)) ≡ valueOut (differenceOf mine other)
 
 -- the four bytes of a record that crossed: W0 W1 W2, and its status for CON
-abbrev pub handedOn : QuayRecord → QuayWeight
+abbrev pub handedOn : QuayRecord → FourBytes
 handedOn item = record { w0 = item .w0; w1 = item .w1; w2 = item .w2; con = item .status }
 
 -- what is no weighing, kind 3 or no record at all, hands on no weight
@@ -82,7 +86,7 @@ HandsOnNoWeight item = (item .kind ≡ kindOf Gross → ⊥) → (item .kind ≡
 
 -- a weighing hands on exactly its own four bytes
 abbrev pub HandsOnItsBytes : Record → QuayRecord → Type 0
-HandsOnItsBytes item out = handedOn out ≡ record { w0 = item .w0; w1 = item .w1; w2 = item .w2; con = item .status }
+HandsOnItsBytes item out = handedOn out ≡ weightBytes item
 
 -- 4 says that a message says a weight
 abbrev pub saysWeight : ℕ
@@ -101,14 +105,15 @@ pub record NeverAWeight : Type 0 where
 pub record NotesItsWeight (item : Record) : Type 0 where
   pub reading : Reading
   pub noted : weightNoted item ≡ read-as.Good reading
-  pub bytes : packedOf reading ≡ packed-as.Bytes (item .w0) (item .w1) (item .w2) (item .status)
+  pub bytes : packedOf reading ≡ packed-as.Bytes (weightBytes item)
   pub across : WeightOf reading (handedOn (recordOut item))
 
--- a message that says a weight crosses as one, with the four bytes that its reading packs to
-pub record SaysItsWeight (load : Load) (reading : Reading) (what : QuayWhat) : Type 0 where
+-- a message that says a weight crosses as one, with exactly the four bytes that were heard
+pub record SaysItsWeight (said : SaidWeight) (body : List ℕ) (what : QuayWhat) : Type 0 where
   pub says : what .says ≡ saysWeight
-  pub kind : what .load ≡ kindOf load
-  pub weight : WeightOf reading (what .weight)
+  pub kind : what .load ≡ kindOf (said .load)
+  pub bytes : fourBytes (what .weight) ≡ dataIn body
+  pub weight : WeightOf (said .reading) (what .weight)
 
 pub record AlwaysItsWeight : Type 0 where
   pub weighed : (item : Record) → good item ≡ true → weighs item ≡ true → item .status < 256 → NotesItsWeight item
@@ -119,6 +124,6 @@ pub record AlwaysItsWeight : Type 0 where
   pub event-recorded : (time number : ℕ) (role : Role) (event : QuayEvent) (given : Event) (body : List ℕ) (item : Record)
       → roleFrom number ≡ asked-as.Role role → eventFrom event ≡ given-as.Event given → notedHeard time role (heardAs given body) ≡ noted-as.Record item
       → weighs item ≡ true → HandsOnItsBytes item (recordHeard time (roleFrom number) (eventFrom event) body)
-  pub message-read : (number : ℕ) (role : Role) (body : List ℕ) (message : Message) (load : Load) (reading : Reading)
-      → roleFrom number ≡ asked-as.Role role → readMessage role body ≡ received-as.Message message → message .what ≡ says.Weight load reading
-      → SaysItsWeight load reading (messageIn (roleFrom number) body .what)
+  pub message-read : (number : ℕ) (role : Role) (body : List ℕ) (message : Message) (said : SaidWeight) → T (areBytes body)
+      → roleFrom number ≡ asked-as.Role role → readMessage role body ≡ received-as.Message message → weightSaid (message .what) ≡ said-as.Weight said
+      → SaysItsWeight said body (messageIn (roleFrom number) body .what)

@@ -12,14 +12,15 @@ use Rattle.body.specs.Body.{bodyOf}
 use Rattle.line.specs.declared.reading.Reader.{Reader}
 use Rattle.line.specs.Listener.{Heard, Listener, frame, hear, events}
 use Rattle.line.specs.Readers.{view}
+use Rattle.weight.specs.declared.FourBytes.{FourBytes}
 use Rattle.weight.specs.declared.Reading.{Reading}
 use Rattle.weight.specs.declared.Packed.the-variants as packed-as
-use Rattle.weight.specs.Bytes.{packedOf}
+use Rattle.weight.specs.Bytes.{fourBytes, packedOf}
 use Rattle.codes.specs.declared.table.Role.{Role}
 use Rattle.codes.specs.declared.table.Role.the-variants.{Reply}
 use Rattle.codes.specs.declared.table.Load.{Load}
 use Rattle.records.specs.declared.records.Record.{Record}
-use Rattle.records.specs.Records.{kindOf, metKind, addressOf}
+use Rattle.records.specs.Records.{kindOf, metKind, addressOf, weightBytes}
 use Rattle.weighing_log.specs.declared.hearing.Noted.{Noted}
 use Rattle.weighing_log.specs.declared.hearing.Noted.the-variants as noted-as
 use Rattle.weighing_log.specs.Hearing.{notedHeard}
@@ -29,10 +30,10 @@ use Rattle.entries.specs.Entries.{entryHeard, entryIf}
 use Rattle.listing.specs.Whole.{listed, listing}
 
 -- "C2 net, C3 gross", "W0 W1 W2 CON": a frame was heard whose body is an address, the code, exactly these bytes, and their check
-pub record ReplyHeard (heard : Heard) (load : Load) (address : Address) (four : List ℕ) : Type 0 where
+pub record ReplyHeard (heard : Heard) (load : Load) (address : Address) (four : FourBytes) : Type 0 where
   pub wire : ℕ
   pub kept : ℕ
-  pub body : heard ≡ frame wire kept (bodyOf address (codeOf load) four)
+  pub body : heard ≡ frame wire kept (bodyOf address (codeOf load) (fourBytes four))
 
 -- there is such an event among those heard
 pub record Among (heard : List Heard) (Such : Heard → Type 0) : Type 0 where
@@ -47,7 +48,7 @@ pub record WeighingHeard (role : Role) (item : Record) (heard : Heard) : Type 0 
   pub load : Load
   pub kind : item .kind ≡ kindOf load
   pub as-reply : role ≡ Reply
-  pub reply : ReplyHeard heard load (addressOf item) (item .w0 ∷ item .w1 ∷ item .w2 ∷ item .status ∷ [])
+  pub reply : ReplyHeard heard load (addressOf item) (weightBytes item)
 
 -- each event: any record that it makes and that is no refusal's
 abbrev pub NotedAsHeard : Type 0
@@ -81,12 +82,9 @@ LogAsHeard =
 
 -- the event that a weight in the listing was heard in: the reading's four bytes
 pub record ListedHeard (load : Load) (address : Address) (reading : Reading) (heard : Heard) : Type 0 where
-  pub w0 : ℕ
-  pub w1 : ℕ
-  pub w2 : ℕ
-  pub con : ℕ
-  pub packed : packedOf reading ≡ packed-as.Bytes w0 w1 w2 con
-  pub reply : ReplyHeard heard load address (w0 ∷ w1 ∷ w2 ∷ con ∷ [])
+  pub four : FourBytes
+  pub packed : packedOf reading ≡ packed-as.Bytes four
+  pub reply : ReplyHeard heard load address four
 
 -- each event
 abbrev pub ListedAsHeard : Type 0

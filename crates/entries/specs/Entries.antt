@@ -7,8 +7,9 @@ use Rattle.body.specs.declared.addresses.Address.{Address}
 use Rattle.line.specs.Listener.{Heard, nothing, frame, refused}
 use Rattle.weight.specs.Bytes.{inRange}
 use Rattle.codes.specs.declared.table.Role.the-variants.{Reply}
-use Rattle.meaning.specs.declared.meaning.What.{What}
-use Rattle.meaning.specs.declared.meaning.What.the-variants as says
+use Rattle.meaning.specs.declared.meaning.WeightOrNot.{WeightOrNot}
+use Rattle.meaning.specs.declared.meaning.WeightOrNot.the-variants as said-as
+use Rattle.meaning.specs.Weights.{weightSaid}
 use Rattle.message.specs.declared.reading.Received.{Received}
 use Rattle.message.specs.declared.reading.Received.the-variants as received-as
 use Rattle.message.specs.Reading.{readIf, readMessage}
@@ -16,22 +17,13 @@ use Rattle.entries.specs.declared.entries.Entry.{Entry}
 use Rattle.entries.specs.declared.entries.Entry.the-variants.{Nothing, Weight, Message, Refused}
 
 -- a message: a weight lists as a weight, every other message with its address and code
-abbrev pub messageEntry : Address → ℕ → What → Entry
-messageEntry address code (says.Weight load reading) = Weight load address reading
-messageEntry address code says.Nothing = Message address code
-messageEntry address code (says.Serial serial) = Message address code
-messageEntry address code (says.Number number) = Message address code
-messageEntry address code (says.Status status) = Message address code
-messageEntry address code (says.Inputs bits on) = Message address code
-messageEntry address code (says.Outputs bits) = Message address code
-messageEntry address code (says.Text number from to) = Message address code
-messageEntry address code (says.Event event from to) = Message address code
-messageEntry address code (says.Converter value) = Message address code
-messageEntry address code (says.Error error) = Message address code
+abbrev pub messageEntry : Address → ℕ → WeightOrNot → Entry
+messageEntry address code (said-as.Weight said) = Weight (said .load) address (said .reading)
+messageEntry address code said-as.NoWeight = Message address code
 
 -- a body that was read, or the refusal it earned
 abbrev pub entryOf : Received → Entry
-entryOf (received-as.Message message) = messageEntry (message .address) (message .code) (message .what)
+entryOf (received-as.Message message) = messageEntry (message .address) (message .code) (weightSaid (message .what))
 entryOf (received-as.Refused why) = Refused why
 
 -- an event of the line, its body read in some way; the refusals of the line and of the message list alike

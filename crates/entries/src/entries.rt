@@ -3,7 +3,8 @@ use body::Address;
 use codes::Load;
 use codes::Role;
 use line::Event;
-use meaning::What;
+use meaning::WeightOrNot;
+use meaning::weight_said;
 use message::Received;
 use message::read;
 use message::read_without_check;
@@ -22,13 +23,17 @@ pub enum Entry {
     Refused(Refusal), // of the line or of the message
 }
 
-fn message_entry(address: Address, code: u8, what: What) -> Entry
-    ensures { λ r. ⌜ r ≡ messageEntry address code what ⌝ }
+fn message_entry(address: Address, code: u8, weight: WeightOrNot) -> Entry
+    ensures { λ r. ⌜ r ≡ messageEntry address code weight ⌝ }
 {
-    if let What::Weight(load, reading) = what {
-        return Entry::Weight(load, address, reading);
+    match weight {
+        WeightOrNot::Weight(said) => {
+            let load = said.load;
+            let reading = said.reading;
+            Entry::Weight(load, address, reading)
+        }
+        WeightOrNot::NoWeight => Entry::Message(address, code),
     }
-    Entry::Message(address, code)
 }
 
 // A body that was read, or the refusal it earned.
@@ -41,7 +46,7 @@ pub fn entry_of(received: Received) -> Entry
             let address = message.address;
             let code = message.code;
             let what = message.what;
-            message_entry(address, code, what)
+            message_entry(address, code, weight_said(what))
         }
     }
 }

@@ -6,7 +6,7 @@ use mathlib.Core.Bool.{true, false}
 use mathlib.Core.List.{List, [], _∷_, map}
 use Rattle.refusal.specs.declared.Refusal.the-variants.{BodyShort, RecordBroken}
 use Rattle.check_byte.specs.Register.{received, feedAll, feedByte, feedBits, shiftIn}
-use Rattle.weight.specs.Bytes.{readOf}
+use Rattle.weight.specs.Bytes.{fourIn, readOf}
 use Rattle.weight.specs.declared.Reading.{Reading}
 use Rattle.low_first.specs.LowFirst.{lowFirst}
 use Rattle.body.specs.declared.addresses.Address.the-variants.{Short, Serial}
@@ -15,7 +15,6 @@ use Rattle.body.specs.Body.{short, judged, judgedLent, codeIn, dataIn}
 use Rattle.line.specs.Listener.{fresh, events, heardThen, hear, hearIn, keep, ended, tick}
 use Rattle.codes.specs.declared.table.Load.the-variants.{Net}
 use Rattle.codes.specs.Table.{lineIn, lineOf as rowsOf, rowOf}
-use Rattle.meaning.specs.Fields.{readIn}
 use Rattle.meaning.specs.Judging.{judgedCode, judgedData, judgedMessage}
 use Rattle.message.specs.Reading.{messageOf, readMessage, readIf}
 use Rattle.entries.specs.declared.entries.Entry.{Entry}
@@ -35,7 +34,7 @@ capture =
 pub four-lines :
     listing (events fresh capture)
     ≡ spelt "1 weight gross 1 + 000251 1 0 0\n2 weight net 1 - 000005 1 1 0\n3 refused 4\ntotal 3 weights 2 refused 1\n"
-unfolding listing entryHeard decimal decimalIn events heardThen hear hearIn keep ended tick readMessage readIf messageOf judgedMessage judgedCode judgedData rowOf rowsOf lineIn readIn readOf judgedLent judged short received feedAll feedByte feedBits shiftIn legal addressIn lowFirst addressLength codeIn dataIn
+unfolding listing entryHeard decimal decimalIn events heardThen hear hearIn keep ended tick readMessage readIf messageOf judgedMessage judgedCode judgedData rowOf rowsOf lineIn fourIn readOf judgedLent judged short received feedAll feedByte feedBits shiftIn legal addressIn lowFirst addressLength codeIn dataIn
 four-lines = refl
 
 -- a silent capture

@@ -6,18 +6,24 @@ use mathlib.Core.List.{List, [], _∷_, map}
 use Rattle.refusal.specs.declared.Refusal.the-variants.{CodeUnknown, LengthWrong, FieldOutside}
 use Rattle.body.specs.declared.addresses.Address.the-variants.{Short}
 use Rattle.body.specs.Addresses.{addressLength}
-use Rattle.weight.specs.Bytes.{readOf}
+use Rattle.weight.specs.Bytes.{fourIn, readOf}
+use Rattle.weight.proofs.Examples.{e3-bytes, e3-reading}
+use Rattle.codes.specs.declared.table.Load.the-variants.{Gross}
 use Rattle.inputs.specs.On.{inputsOn, sumOfBits}
 use Rattle.codes.specs.declared.table.Role.{Role}
 use Rattle.codes.specs.declared.table.Role.the-variants.{Request, Reply}
 use Rattle.codes.specs.Table.{lineIn, lineOf, rowOf}
+use Rattle.meaning.specs.declared.meaning.SaidWeight.{SaidWeight}
 use Rattle.meaning.specs.declared.meaning.What.the-variants as says
 use Rattle.meaning.specs.declared.meaning.Told.{Told}
 use Rattle.meaning.specs.declared.meaning.Told.the-variants.{What, Refused}
-use Rattle.meaning.specs.Fields.{readIn}
 use Rattle.meaning.specs.Meaning.{onIn}
 use Rattle.low_first.specs.LowFirst.{lowFirst}
 use Rattle.meaning.specs.Judging.{judgedCode, judgedData, judgedMessage, told}
+
+-- E3: a gross weight of 25.1 kg
+abbrev pub e3-said : SaidWeight
+e3-said = record { load = Gross; bytes = e3-bytes; reading = e3-reading }
 
 pub record Case : Type 0 where
   pub role : Role
@@ -37,6 +43,8 @@ cases =
     -- a status has its top bit 0
     ∷ tells Reply 0xBF (0x7F ∷ []) (What (says.Status 0x7F))
     ∷ tells Reply 0xBF (0x80 ∷ []) (Refused FieldOutside)
+    -- a weight, with its four bytes
+    ∷ tells Reply 0xC3 (0x51 ∷ 0x02 ∷ 0x00 ∷ 0x01 ∷ []) (What (says.Weight e3-said))
     -- a half above 9
     ∷ tells Reply 0xC2 (0x0A ∷ 0x00 ∷ 0x00 ∷ 0x00 ∷ []) (Refused FieldOutside)
     ∷ tells Reply 0xC4 (0x01 ∷ 0x00 ∷ 0xFF ∷ 0x80 ∷ []) (What (says.Inputs 0x80FF0001 10))
@@ -59,5 +67,5 @@ cases =
     ∷ []
 
 pub cases-told : map (λ (case : Case). told (case .role) (Short 1) (case .code) (case .data′)) cases ≡ map (λ (case : Case). case .answer) cases
-unfolding addressLength told judgedMessage judgedCode judgedData rowOf lineOf lineIn readIn readOf lowFirst onIn inputsOn sumOfBits
+unfolding addressLength told judgedMessage judgedCode judgedData rowOf lineOf lineIn fourIn readOf lowFirst onIn inputsOn sumOfBits
 cases-told = refl

@@ -5,14 +5,14 @@ use mathlib.Core.List.{List}
 use lib.ListN.{getD}
 use lib.Dec.{eqb, ltb}
 use Rattle.weight.specs.declared.Read.{Read}
-use Rattle.weight.specs.Bytes.{readOf, readable}
+use Rattle.weight.specs.Bytes.{fourIn, readOf, readable}
 use Rattle.codes.specs.declared.table.Row.{Row}
 use Rattle.codes.specs.declared.table.Row.the-variants.{Unknown, Empty, Serial, Number, Status, Weight, Inputs, Outputs, Text, Event, Converter, Error}
 use Rattle.codes.specs.Table.{among}
 
 -- W0 W1 W2 CON
-unfoldable pub readIn : List ℕ → Read
-readIn data′ = readOf (getD data′ 0 0) (getD data′ 1 0) (getD data′ 2 0) (getD data′ 3 0)
+abbrev pub readIn : List ℕ → Read
+readIn data′ = readOf (fourIn data′)
 
 abbrev pub fieldsRight : Row → List ℕ → Bool
 fieldsRight Unknown data′ = true

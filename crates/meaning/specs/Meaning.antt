@@ -1,33 +1,30 @@
 -- 01, "Messages": what the data of each row say, as numbers, a reading, or the place of a text in the body.
 use Prim.Native.Nat.{ℕ, _+_}
-use mathlib.Core.List.{List, [], _∷_}
+use mathlib.Core.List.{List}
 use lib.ListN.{length, getD}
 use Rattle.body.specs.declared.addresses.Address.{Address}
 use Rattle.body.specs.Addresses.{addressLength}
+use Rattle.weight.specs.declared.FourBytes.{FourBytes}
 use Rattle.weight.specs.declared.Read.{Read}
 use Rattle.weight.specs.declared.Read.the-variants as read-as
+use Rattle.weight.specs.Bytes.{fourIn}
 use Rattle.low_first.specs.LowFirst.{lowFirst}
 use Rattle.inputs.specs.On.{inputsOn}
 use Rattle.codes.specs.declared.table.Load.{Load}
 use Rattle.codes.specs.declared.table.Row.{Row}
 use Rattle.codes.specs.declared.table.Row.the-variants.{Unknown, Empty, Serial, Number, Status, Weight, Inputs, Outputs, Text, Event, Converter, Error}
-use Rattle.meaning.specs.declared.meaning.Four.{Four}
 use Rattle.meaning.specs.declared.meaning.What.{What}
 use Rattle.meaning.specs.declared.meaning.What.the-variants as says
 use Rattle.meaning.specs.Fields.{readIn}
-
--- four bytes in their order
-abbrev pub fourBytes : Four → List ℕ
-fourBytes four = four .0 ∷ four .1 ∷ four .2 ∷ four .3 ∷ []
 
 -- "For C4 the library also tells how many of the 32 inputs are on."
 unfoldable pub onIn : List ℕ → ℕ
 onIn data′ = inputsOn (getD data′ 0 0) (getD data′ 1 0) (getD data′ 2 0) (getD data′ 3 0)
 
--- a weight that could be read; one that could not is refused by 8 and says nothing
-abbrev pub weighed : Load → Read → What
-weighed load (read-as.Good reading) = says.Weight load reading
-weighed load (read-as.Refused why) = says.Nothing
+-- a weight that could be read, with its four bytes; one that could not is refused by 8 and says nothing
+abbrev pub weighed : Load → FourBytes → Read → What
+weighed load bytes (read-as.Good reading) = says.Weight (record { load = load; bytes = bytes; reading = reading })
+weighed load bytes (read-as.Refused why) = says.Nothing
 
 -- where in a body the data begin: behind the address and the code
 abbrev pub dataFrom : Address → ℕ
@@ -40,7 +37,7 @@ meaning Empty from data′ = says.Nothing
 meaning Serial from data′ = says.Serial (lowFirst data′)
 meaning (Number numbers) from data′ = says.Number (getD data′ 0 0)
 meaning Status from data′ = says.Status (getD data′ 0 0)
-meaning (Weight load) from data′ = weighed load (readIn data′)
+meaning (Weight load) from data′ = weighed load (fourIn data′) (readIn data′)
 meaning Inputs from data′ = says.Inputs (lowFirst data′) (onIn data′)
 meaning Outputs from data′ = says.Outputs (lowFirst data′)
 meaning (Text numbers) from data′ = says.Text (getD data′ 0 0) (from + 2) (from + length data′)

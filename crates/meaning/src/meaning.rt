@@ -14,6 +14,7 @@ use inputs::count_on;
 use low_first::long;
 use low_first::word;
 use refusal::Refusal;
+use weight::FourBytes;
 use weight::Read;
 use weight::Reading;
 use weight::read_bytes;
@@ -23,8 +24,17 @@ ghost use Prim.Native.Nat.{_≤_};
 ghost use lib.ListN.{length};
 ghost use Rattle.low_first.specs.LowFirst.{lowFirst};
 ghost use Rattle.codes.specs.Lengths.{lengthOf, lengthRight};
-ghost use Rattle.meaning.specs.Meaning.{fourBytes};
+ghost use Rattle.weight.specs.Bytes.{fourIn};
+ghost use Rattle.meaning.specs.Meaning.{onIn};
+ghost use Rattle.meaning.specs.Weights.{weightSaid};
 ghost use Rattle.meaning.specs.Judging.{within, said, told};
+
+// A weight as it was said: gross or net, its four bytes, and the reading that they stand for. The log notes the bytes, the listing shows the reading.
+pub struct SaidWeight {
+    pub load: Load,
+    pub bytes: FourBytes,
+    pub reading: Reading,
+}
 
 // What a message says. A text, and the six bytes of an event, stand in the lent body from place `from` up to but not including place `to`.
 pub enum What {
@@ -32,13 +42,19 @@ pub enum What {
     Serial(u32), // the terminal's serial number
     Number(u8), // NUM
     Status(u8),
-    Weight(Load, Reading),
+    Weight(SaidWeight),
     Inputs { bits: u32, on: u32 }, // the first byte is the low one; how many of the 32 are on
     Outputs(u32), // the first byte is the low one
     Text { number: u8, from: usize, to: usize },
     Event { event: u8, from: usize, to: usize },
     Converter(u64), // the converter's number
     Error(u8), // NER, the number of an error
+}
+
+// Whether a message says a weight.
+pub enum WeightOrNot {
+    Weight(SaidWeight),
+    NoWeight,
 }
 
 // What code and data say, or the refusal they earn.
@@ -65,18 +81,33 @@ fn converter_in(data: &[u8]) -> u64
     long(low, high)
 }
 
-// Four bytes in their order.
-struct Four(u8, u8, u8, u8);
-
-fn four_in(data: &[u8]) -> Four
+// W0 W1 W2 CON.
+fn weight_in(data: &[u8]) -> FourBytes
     requires { ⌜ length (now «data») ≡ 4 ⌝ }
-    ensures { λ r. ⌜ now («data» .entry) ≡ fourBytes r ⌝ }
+    ensures { λ r. ⌜ r ≡ fourIn (now («data» .entry)) ⌝ }
 {
-    let first = data[0];
-    let second = data[1];
-    let third = data[2];
-    let fourth = data[3];
-    Four(first, second, third, fourth)
+    FourBytes {
+        w0: data[0],
+        w1: data[1],
+        w2: data[2],
+        con: data[3],
+    }
+}
+
+// Four bytes, low byte first.
+fn word_in(data: &[u8]) -> u32
+    requires { ⌜ length (now «data») ≡ 4 ⌝ }
+    ensures { λ r. ⌜ r ≡ lowFirst (now («data» .entry)) ⌝ }
+{
+    word(data[0], data[1], data[2], data[3])
+}
+
+// How many of the 32 bits are on.
+fn on_in(data: &[u8]) -> u32
+    requires { ⌜ length (now «data») ≡ 4 ⌝ }
+    ensures { λ r. ⌜ r ≡ onIn (now («data» .entry)) ⌝ }
+{
+    count_on(data[0], data[1], data[2], data[3])
 }
 
 // 8, where a field is not right.
@@ -144,23 +175,22 @@ fn say(row: Row, from: usize, data: &[u8]) -> Told
             judged(status < 0x80, What::Status(status))
         }
         Row::Weight(load) => {
-            let four = four_in(data);
-            match read_bytes(four.0, four.1, four.2, four.3) {
-                Read::Good(reading) => Told::What(What::Weight(load, reading)),
+            let bytes = weight_in(data);
+            match read_bytes(bytes) {
+                Read::Good(reading) => Told::What(What::Weight(SaidWeight {
+                    load,
+                    bytes,
+                    reading,
+                })),
                 Read::Refused(_) => Told::Refused(Refusal::FieldOutside),
             }
         }
         Row::Inputs => {
-            let four = four_in(data);
-            let bits = word(four.0, four.1, four.2, four.3);
-            let on = count_on(four.0, four.1, four.2, four.3);
+            let bits = word_in(data);
+            let on = on_in(data);
             Told::What(What::Inputs { bits, on })
         }
-        Row::Outputs => {
-            let four = four_in(data);
-            let bits = word(four.0, four.1, four.2, four.3);
-            Told::What(What::Outputs(bits))
-        }
+        Row::Outputs => Told::What(What::Outputs(word_in(data))),
         Row::Text(numbers) => say_text(numbers, from, data),
         Row::Event => say_event(from, data),
         Row::Converter => Told::What(What::Converter(converter_in(data))),
@@ -184,4 +214,14 @@ pub fn tell(role: Role, address: Address, code: u8, data: &[u8]) -> Told
     }
     let from = address_length(address) + 1;
     say(row, from, data)
+}
+
+// The weight that a message says, or that it says none. Whoever asks only this need not know what else a message may say.
+pub fn weight_said(what: What) -> WeightOrNot
+    ensures { λ r. ⌜ r ≡ weightSaid what ⌝ }
+{
+    match what {
+        What::Weight(said) => WeightOrNot::Weight(said),
+        _ => WeightOrNot::NoWeight,
+    }
 }

@@ -8,20 +8,18 @@ use Rattle.refusal.specs.declared.Refusal.{Refusal}
 use Rattle.refusal.specs.declared.Refusal.the-variants.{BodyShort, BodyLong, CheckWrong, AddressIllegal, LengthWrong, RoomShort}
 use Rattle.refusal.specs.declared.Verdict.the-variants as verdict-as
 use Rattle.check_byte.specs.Register.{received, checkOf, feedAll, feedByte, feedBits, shiftIn}
-use Rattle.weight.specs.Bytes.{readOf}
-use Rattle.weight.proofs.Examples.{e3-reading}
+use Rattle.weight.specs.Bytes.{fourIn, readOf}
 use Rattle.body.specs.declared.addresses.Address.{Address}
 use Rattle.body.specs.declared.addresses.Address.the-variants.{Short, Serial}
 use Rattle.body.specs.Addresses.{legal, addressBytes, addressIn, addressLength}
 use Rattle.body.specs.Body.{unchecked, bodyOf, short, codeIn, dataIn}
 use Rattle.frame.specs.Stuffing.{countFF, needed}
 use Rattle.codes.specs.declared.table.Role.the-variants.{Request, Reply}
-use Rattle.codes.specs.declared.table.Load.the-variants.{Gross}
 use Rattle.meaning.specs.declared.meaning.What.the-variants as says
 use Rattle.message.specs.declared.reading.Received.{Received}
 use Rattle.message.specs.declared.reading.Received.the-variants as received-as
 use Rattle.codes.specs.Table.{lineIn, lineOf, rowOf}
-use Rattle.meaning.specs.Fields.{readIn}
+use Rattle.meaning.proofs.Examples.{e3-said}
 use Rattle.low_first.specs.LowFirst.{lowFirst, lowBytes}
 use Rattle.meaning.specs.Judging.{judgedCode, judgedData, judgedMessage}
 use Rattle.message.specs.Reading.{messageOf, readIf, readMessage}
@@ -40,7 +38,7 @@ abbrev pub bodies : List Heard
 bodies =
     -- E3, 25.1 kg
     read-as (0x01 ∷ 0xC3 ∷ 0x51 ∷ 0x02 ∷ 0x00 ∷ 0x01 ∷ 0xDE ∷ [])
-    (received-as.Message (record { address = Short 1; code = 0xC3; from = 2; to = 6; what = says.Weight Gross e3-reading }))
+    (received-as.Message (record { address = Short 1; code = 0xC3; from = 2; to = 6; what = says.Weight e3-said }))
     -- E5, serial 255
     ∷ read-as (0x01 ∷ 0xA1 ∷ 0xFF ∷ 0x00 ∷ 0x00 ∷ 0x39 ∷ [])
     (received-as.Message (record { address = Short 1; code = 0xA1; from = 2; to = 5; what = says.Serial 255 }))
@@ -56,7 +54,7 @@ bodies =
     ∷ []
 
 pub bodies-read : map (λ (heard : Heard). readMessage Reply (heard .body)) bodies ≡ map (λ (heard : Heard). heard .answer) bodies
-unfolding readMessage readIf messageOf judgedMessage judgedCode judgedData rowOf lineOf lineIn readIn readOf lowFirst short received checkOf feedAll feedByte feedBits shiftIn legal addressIn addressLength codeIn dataIn
+unfolding readMessage readIf messageOf judgedMessage judgedCode judgedData rowOf lineOf lineIn fourIn readOf lowFirst short received checkOf feedAll feedByte feedBits shiftIn legal addressIn addressLength codeIn dataIn
 bodies-read = refl
 
 -- ---- the longest text: 250 characters with a short address, 247 with a serial. With no room at all, a message that is not too long is 9.

@@ -36,7 +36,10 @@ fn sum_of_what(what: What) -> u64 {
         What::Serial(serial) => serial as u64,
         What::Number(number) => number as u64,
         What::Status(status) => status as u64,
-        What::Weight(_, reading) => sum_of_reading(reading),
+        What::Weight(said) => {
+            let reading = said.reading;
+            sum_of_reading(reading)
+        }
         What::Inputs { bits, on } => wrapping_add_u64(bits as u64, on as u64),
         What::Outputs(bits) => bits as u64,
         What::Text { number, from, to } => sum_of_part(number, from, to),

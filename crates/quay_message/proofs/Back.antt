@@ -21,6 +21,6 @@ address-back (Short short) is-legal =
     let low = leb-true 1 short (and-eq-true-iff (leb 1 short) _ .0 is-legal .0) in
     rw (ne-eqb short 0 (λ (e : short ≡ 0). omega arith))
 
-pub no-weight : readOf (noWeight .w0) (noWeight .w1) (noWeight .w2) (noWeight .con) ≡ read-as.Refused FieldOutside
+pub no-weight : readOf noWeight ≡ read-as.Refused FieldOutside
 unfolding readOf
 no-weight = refl

@@ -4,9 +4,7 @@ use mathlib.Core.List.{List}
 use Rattle.refusal.specs.declared.Refusal.{Refusal}
 use Rattle.refusal.specs.Numbers.{numberOf}
 use Rattle.body.specs.Addresses.{firstByte, serialOf}
-use Rattle.weight.specs.declared.Packed.{Packed}
-use Rattle.weight.specs.declared.Packed.the-variants as packed-as
-use Rattle.weight.specs.Bytes.{packedOf}
+use Rattle.weight.specs.declared.FourBytes.{FourBytes}
 use Rattle.meaning.specs.declared.meaning.What.{What}
 use Rattle.meaning.specs.declared.meaning.What.the-variants as says
 use Rattle.message.specs.declared.reading.Message.{Message}
@@ -14,19 +12,14 @@ use Rattle.message.specs.declared.reading.Received.{Received}
 use Rattle.message.specs.declared.reading.Received.the-variants as received-as
 use Rattle.message.specs.Reading.{readMessage}
 use Rattle.records.specs.Records.{kindOf}
-use Rattle.crossing.specs.declared.weights.QuayWeight.{QuayWeight}
 use Rattle.crossing.specs.declared.roles.Asked.{Asked}
 use Rattle.crossing.specs.declared.roles.Asked.the-variants as asked-as
 use Rattle.quay_message.specs.declared.messages.QuayWhat.{QuayWhat}
 use Rattle.quay_message.specs.declared.messages.QuayMessage.{QuayMessage}
 
 -- no half of these bytes is a digit, so they read as no weight
-abbrev pub noWeight : QuayWeight
+abbrev pub noWeight : FourBytes
 noWeight = record { w0 = 255; w1 = 255; w2 = 255; con = 255 }
-
-abbrev pub weightOut : Packed → QuayWeight
-weightOut (packed-as.Bytes w0 w1 w2 con) = record { w0 = w0; w1 = w1; w2 = w2; con = con }
-weightOut (packed-as.Refused why) = noWeight
 
 -- all ones: above every number that is said, and above 32 inputs
 abbrev pub noNumber : ℕ
@@ -46,7 +39,7 @@ whatOut says.Nothing = plain 0 noNumber noCount
 whatOut (says.Serial serial) = plain 1 serial noCount
 whatOut (says.Number number) = plain 2 number noCount
 whatOut (says.Status status) = plain 3 status noCount
-whatOut (says.Weight load reading) = record { number = noNumber; from = 0; to = 0; on = noCount; weight = weightOut (packedOf reading); load = kindOf load; says = 4 }
+whatOut (says.Weight said) = record { number = noNumber; from = 0; to = 0; on = noCount; weight = said .bytes; load = kindOf (said .load); says = 4 }
 whatOut (says.Inputs bits on) = plain 5 bits on
 whatOut (says.Outputs bits) = plain 6 bits noCount
 whatOut (says.Text number from to) = placed 7 number from to

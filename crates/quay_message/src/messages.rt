@@ -2,7 +2,6 @@
 use body::first_byte;
 use body::serial_of;
 use crossing::Asked;
-use crossing::QuayWeight;
 use crossing::role_from;
 use meaning::What;
 use message::Message;
@@ -10,13 +9,10 @@ use message::Received;
 use records::kind_of;
 use refusal::Refusal;
 use refusal::number;
-use weight::Packed;
-use weight::Reading;
-use weight::to_bytes;
+use weight::FourBytes;
 ghost use mathlib.Core.Path.{_≡_};
-ghost use Rattle.weight.specs.Bytes.{packedOf};
 ghost use Rattle.crossing.specs.Roles.{roleFrom};
-ghost use Rattle.quay_message.specs.Messages.{noWeight, weightOut, plain, placed, whatOut, messageOut, noMessage, receivedOut, messageIn};
+ghost use Rattle.quay_message.specs.Messages.{noWeight, plain, placed, whatOut, messageOut, noMessage, receivedOut, messageIn};
 
 // What a message says. A number, a count or a weight that its kind does not have is all ones. No message can say that.
 #[repr(C)]
@@ -25,7 +21,7 @@ pub struct QuayWhat {
     pub from: usize, // where in the body a text, or the six bytes of an event, begin
     pub to: usize, // the place behind them
     pub on: u32, // how many of the 32 inputs are on
-    pub weight: QuayWeight,
+    pub weight: FourBytes, // as it was heard
     pub load: u8, // 1 gross, 2 net
     pub says: u8, // 0 nothing, 1 serial, 2 number, 3 status, 4 weight, 5 inputs, 6 outputs, 7 text, 8 event, 9 converter, 10 error
 }
@@ -47,23 +43,15 @@ pub struct QuayMessage {
     pub refusal: u8,
 }
 
-fn no_weight() -> QuayWeight
+// Four times FF is no weight: every use of it is refused by 8.
+fn no_weight() -> FourBytes
     ensures { λ r. ⌜ r ≡ noWeight ⌝ }
 {
-    QuayWeight {
+    FourBytes {
         w0: 255,
         w1: 255,
         w2: 255,
         con: 255,
-    }
-}
-
-fn weight_out(reading: Reading) -> QuayWeight
-    ensures { λ r. ⌜ r ≡ weightOut (packedOf reading) ⌝ }
-{
-    match to_bytes(reading) {
-        Packed::Bytes { w0, w1, w2, con } => QuayWeight { w0, w1, w2, con },
-        Packed::Refused(_) => no_weight(),
     }
 }
 
@@ -105,15 +93,19 @@ fn what_out(what: What) -> QuayWhat
         What::Serial(serial) => plain(1, serial as u64, NO_COUNT),
         What::Number(number) => plain(2, number as u64, NO_COUNT),
         What::Status(status) => plain(3, status as u64, NO_COUNT),
-        What::Weight(load, reading) => QuayWhat {
-            number: NO_NUMBER,
-            from: 0,
-            to: 0,
-            on: NO_COUNT,
-            weight: weight_out(reading),
-            load: kind_of(load),
-            says: 4,
-        },
+        What::Weight(said) => {
+            let load = said.load;
+            let weight = said.bytes;
+            QuayWhat {
+                number: NO_NUMBER,
+                from: 0,
+                to: 0,
+                on: NO_COUNT,
+                weight,
+                load: kind_of(load),
+                says: 4,
+            }
+        }
         What::Inputs { bits, on } => plain(5, bits as u64, on),
         What::Outputs(bits) => plain(6, bits as u64, NO_COUNT),
         What::Text { number, from, to } => placed(7, number, from, to),

@@ -10,19 +10,13 @@ use Rattle.weight.specs.declared.Read.{Read}
 use Rattle.weight.specs.declared.Read.the-variants as read-as
 use Rattle.weight.specs.declared.Value.{Value}
 use Rattle.weight.specs.declared.Value.the-variants as value-as
-use Rattle.weight.specs.Bytes.{readOf}
 use Rattle.weight.specs.Tenths.{valueOf, differenceOf}
 use Rattle.kilograms.specs.declared.Kilograms.{Kilograms}
 use Rattle.kilograms.specs.declared.Kilograms.the-variants as kilograms-as
 use Rattle.kilograms.specs.Rounded.{kilogramsOf}
-use Rattle.crossing.specs.declared.weights.QuayWeight.{QuayWeight}
 use Rattle.quay_weight.specs.declared.weights.QuayReading.{QuayReading}
 use Rattle.quay_weight.specs.declared.weights.QuayValue.{QuayValue}
 use Rattle.quay_weight.specs.declared.weights.QuayKilograms.{QuayKilograms}
-
--- the four bytes that were handed in
-abbrev pub weightIn : QuayWeight → Read
-weightIn weight = readOf (weight .w0) (weight .w1) (weight .w2) (weight .con)
 
 abbrev pub mark : Bool → ℕ
 mark true = 1

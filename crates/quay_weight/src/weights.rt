@@ -1,9 +1,9 @@
 // Weights. Four bytes go in, as the wire and the log have them. A reading, its value, a difference or kilograms come out.
-use crossing::QuayWeight;
 use kilograms::Kilograms;
 use kilograms::kilograms_of;
 use refusal::Refusal;
 use refusal::number;
+use weight::FourBytes;
 use weight::Read;
 use weight::Reading;
 use weight::Value;
@@ -11,7 +11,8 @@ use weight::gross_less_net;
 use weight::read_bytes;
 use weight::value_of;
 ghost use mathlib.Core.Path.{_≡_};
-ghost use Rattle.quay_weight.specs.Weights.{weightIn, mark, goodReading, noReading, readingOut, valueOut, valueRead, differenceRead, kilogramsOut, kilogramsRead};
+ghost use Rattle.weight.specs.Bytes.{readOf};
+ghost use Rattle.quay_weight.specs.Weights.{mark, goodReading, noReading, readingOut, valueOut, valueRead, differenceRead, kilogramsOut, kilogramsRead};
 
 // What a terminal shows. The marks are 0 or 1. If refused, the number and the marks are all ones and the point is 0: number and
 // point together are far above any weight.
@@ -107,18 +108,12 @@ fn kilograms_out(weighed: Kilograms) -> QuayKilograms
     }
 }
 
-fn read(weight: QuayWeight) -> Read
-    ensures { λ r. ⌜ r ≡ weightIn weight ⌝ }
-{
-    read_bytes(weight.w0, weight.w1, weight.w2, weight.con)
-}
-
 // The reading of four bytes, or 8.
 #[no_mangle]
-pub extern "C" fn quay_read_weight(weight: QuayWeight) -> QuayReading
-    ensures { λ r. ⌜ r ≡ readingOut (weightIn weight) ⌝ }
+pub extern "C" fn quay_read_weight(weight: FourBytes) -> QuayReading
+    ensures { λ r. ⌜ r ≡ readingOut (readOf weight) ⌝ }
 {
-    match read(weight) {
+    match read_bytes(weight) {
         Read::Good(reading) => good_reading(reading),
         Read::Refused(why) => no_reading(why),
     }
@@ -126,10 +121,10 @@ pub extern "C" fn quay_read_weight(weight: QuayWeight) -> QuayReading
 
 // The value of a weight in tenths of a milligram, or 8.
 #[no_mangle]
-pub extern "C" fn quay_value(weight: QuayWeight) -> QuayValue
-    ensures { λ r. ⌜ r ≡ valueOut (valueRead (weightIn weight)) ⌝ }
+pub extern "C" fn quay_value(weight: FourBytes) -> QuayValue
+    ensures { λ r. ⌜ r ≡ valueOut (valueRead (readOf weight)) ⌝ }
 {
-    match read(weight) {
+    match read_bytes(weight) {
         Read::Good(reading) => value_out(value_of(reading)),
         Read::Refused(why) => value_out(Value::Refused(why)),
     }
@@ -137,12 +132,12 @@ pub extern "C" fn quay_value(weight: QuayWeight) -> QuayValue
 
 // Gross less net in tenths of a milligram, or 8.
 #[no_mangle]
-pub extern "C" fn quay_difference(gross: QuayWeight, net: QuayWeight) -> QuayValue
-    ensures { λ r. ⌜ r ≡ valueOut (differenceRead (weightIn gross) (weightIn net)) ⌝ }
+pub extern "C" fn quay_difference(gross: FourBytes, net: FourBytes) -> QuayValue
+    ensures { λ r. ⌜ r ≡ valueOut (differenceRead (readOf gross) (readOf net)) ⌝ }
 {
-    match read(gross) {
+    match read_bytes(gross) {
         Read::Refused(why) => value_out(Value::Refused(why)),
-        Read::Good(gross_reading) => match read(net) {
+        Read::Good(gross_reading) => match read_bytes(net) {
             Read::Refused(why) => value_out(Value::Refused(why)),
             Read::Good(net_reading) => value_out(gross_less_net(gross_reading, net_reading)),
         },
@@ -151,10 +146,10 @@ pub extern "C" fn quay_difference(gross: QuayWeight, net: QuayWeight) -> QuayVal
 
 // A weight in kilograms as a 64-bit float, or 8.
 #[no_mangle]
-pub extern "C" fn quay_kilograms(weight: QuayWeight) -> QuayKilograms
-    ensures { λ r. ⌜ r ≡ kilogramsOut (kilogramsRead (weightIn weight)) ⌝ }
+pub extern "C" fn quay_kilograms(weight: FourBytes) -> QuayKilograms
+    ensures { λ r. ⌜ r ≡ kilogramsOut (kilogramsRead (readOf weight)) ⌝ }
 {
-    match read(weight) {
+    match read_bytes(weight) {
         Read::Good(reading) => kilograms_out(kilograms_of(reading)),
         Read::Refused(why) => kilograms_out(Kilograms::Refused(why)),
     }

@@ -12,11 +12,11 @@ use crate::words::say_refusal;
 use crate::words::say_small;
 use crate::words::say_tagged;
 use codes::Load;
+use meaning::SaidWeight;
 use meaning::What;
 use message::Message;
 use message::Received;
 use room::Written;
-use weight::Reading;
 
 fn say_text(tag: u8, number: u8, bytes: &[u8]) {
     say_tagged(tag, number as u64);
@@ -30,7 +30,9 @@ fn load_number(load: Load) -> u8 {
     }
 }
 
-fn say_weight(load: Load, reading: Reading) {
+fn say_weight(said: SaidWeight) {
+    let load = said.load;
+    let reading = said.reading;
     say_tagged(4, load_number(load) as u64);
     say_reading(reading)
 }
@@ -56,7 +58,7 @@ fn say_one(what: What) {
 // What a message says: its kind, and its fields. A text, and the bytes of an event, are told as they stand in the body.
 fn say_what(what: What, body: &[u8]) {
     match what {
-        What::Weight(load, reading) => say_weight(load, reading),
+        What::Weight(said) => say_weight(said),
         What::Inputs { bits, on } => say_inputs(bits, on),
         What::Text { number, from, to } => say_text(7, number, part(body, from, to)),
         What::Event { event, from, to } => say_text(8, event, part(body, from, to)),

@@ -9,6 +9,7 @@ use crate::words::say_number;
 use crate::words::say_reading;
 use crate::words::say_refusal;
 use kilograms::Kilograms;
+use weight::FourBytes;
 use weight::Packed;
 use weight::Read;
 use weight::Value;
@@ -25,7 +26,12 @@ pub(crate) fn say_read(read: Read) {
 
 // W0 W1 W2 CON; a reading.
 pub(crate) fn read() {
-    say_read(weight::read_bytes(take_byte(), take_byte(), take_byte(), take_byte()))
+    say_read(weight::read_bytes(FourBytes {
+        w0: take_byte(),
+        w1: take_byte(),
+        w2: take_byte(),
+        con: take_byte(),
+    }))
 }
 
 // A reading; whether its number and its point lie in their ranges.
@@ -37,9 +43,9 @@ pub(crate) fn in_range() {
 pub(crate) fn write() {
     match weight::to_bytes(take_reading()) {
         Packed::Refused(why) => say_refusal(why),
-        Packed::Bytes { w0, w1, w2, con } => {
+        Packed::Bytes(bytes) => {
             say_good();
-            let four = [w0, w1, w2, con];
+            let four = [bytes.w0, bytes.w1, bytes.w2, bytes.con];
             say_bytes(&four)
         }
     }

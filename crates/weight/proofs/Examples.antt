@@ -6,6 +6,7 @@ use mathlib.Core.Bool.{Bool, true, false}
 use lib.IntN.{pos, negℤ}
 use Rattle.refusal.specs.declared.Refusal.the-variants.{FieldOutside}
 use Rattle.refusal.specs.Numbers.{numberOf}
+use Rattle.weight.specs.declared.FourBytes.{FourBytes}
 use Rattle.weight.specs.declared.Reading.{Reading}
 use Rattle.weight.specs.declared.Read.the-variants.{Good, Refused as NotRead}
 use Rattle.weight.specs.declared.Packed.the-variants.{Bytes, Refused as NotPacked}
@@ -22,7 +23,10 @@ shown minus number point settled =
 abbrev pub e3-reading : Reading
 e3-reading = shown false 251 1 false
 
-pub e3-read : readOf 0x51 0x02 0x00 0x01 ≡ Good e3-reading
+abbrev pub e3-bytes : FourBytes
+e3-bytes = record { w0 = 0x51; w1 = 0x02; w2 = 0x00; con = 0x01 }
+
+pub e3-read : readOf e3-bytes ≡ Good e3-reading
 unfolding readOf
 e3-read = refl
 
@@ -34,7 +38,10 @@ e3-value = refl
 abbrev pub e4-reading : Reading
 e4-reading = shown true 5 1 true
 
-pub e4-read : readOf 0x05 0x00 0x00 0x91 ≡ Good e4-reading
+abbrev pub e4-bytes : FourBytes
+e4-bytes = record { w0 = 0x05; w1 = 0x00; w2 = 0x00; con = 0x91 }
+
+pub e4-read : readOf e4-bytes ≡ Good e4-reading
 unfolding readOf
 e4-read = refl
 
@@ -64,7 +71,7 @@ pub minus-zero-value : valueOf minus-zero ≡ Tenths (pos 0)
 unfolding valueOf inRange
 minus-zero-value = refl
 
-pub minus-zero-bytes : packedOf minus-zero ≡ Bytes 0x00 0x00 0x00 0x90
+pub minus-zero-bytes : packedOf minus-zero ≡ Bytes (record { w0 = 0x00; w1 = 0x00; w2 = 0x00; con = 0x90 })
 unfolding packedOf inRange
 minus-zero-bytes = refl
 
@@ -73,7 +80,7 @@ minus-zero-bytes = refl
 pub outside-is-8 : numberOf FieldOutside ≡ 8
 outside-is-8 = refl
 
-pub half-of-ten : readOf 0x0A 0x00 0x00 0x00 ≡ NotRead FieldOutside
+pub half-of-ten : readOf (record { w0 = 0x0A; w1 = 0x00; w2 = 0x00; con = 0x00 }) ≡ NotRead FieldOutside
 unfolding readOf
 half-of-ten = refl
 

@@ -1,9 +1,9 @@
 -- Shown: the promise of each public function of this crate admits one answer.
 -- Why: each is an equation with a definition, so two answers that meet it are equal by way of that definition.
-use Prim.Native.Nat.{ℕ}
 use mathlib.Core.Path.{_≡_}
 use mathlib.Core.Bool.{Bool}
 use Rattle.laws.proofs.OneAnswer.{one}
+use Rattle.weight.specs.declared.FourBytes.{FourBytes}
 use Rattle.weight.specs.declared.Reading.{Reading}
 use Rattle.weight.specs.declared.Read.{Read}
 use Rattle.weight.specs.declared.Packed.{Packed}
@@ -11,8 +11,8 @@ use Rattle.weight.specs.declared.Value.{Value}
 use Rattle.weight.specs.Bytes.{inRange, readOf, packedOf}
 use Rattle.weight.specs.Tenths.{valueOf, differenceOf}
 
-pub read-bytes-one : (w0 w1 w2 con : ℕ) (a b : Read) → a ≡ readOf w0 w1 w2 con → b ≡ readOf w0 w1 w2 con → a ≡ b
-read-bytes-one w0 w1 w2 con a b = one
+pub read-bytes-one : (bytes : FourBytes) (a b : Read) → a ≡ readOf bytes → b ≡ readOf bytes → a ≡ b
+read-bytes-one bytes a b = one
 
 pub to-bytes-one : (reading : Reading) (a b : Packed) → a ≡ packedOf reading → b ≡ packedOf reading → a ≡ b
 to-bytes-one reading a b = one

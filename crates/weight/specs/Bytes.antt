@@ -2,8 +2,11 @@
 -- bytes come back exactly. A reading handed in with a number above 999,999 or a point above 7 is refusal 8 wherever it is used."
 use Prim.Native.Nat.{ℕ, _/_}
 use mathlib.Core.Bool.{Bool, true, false, _&&_, cond}
+use mathlib.Core.List.{List, [], _∷_}
 use lib.Dec.{leb}
+use lib.ListN.{getD}
 use Rattle.refusal.specs.declared.Refusal.the-variants.{FieldOutside}
+use Rattle.weight.specs.declared.FourBytes.{FourBytes}
 use Rattle.weight.specs.declared.Reading.{Reading}
 use Rattle.weight.specs.declared.Read.{Read}
 use Rattle.weight.specs.declared.Read.the-variants.{Good, Refused as NotRead}
@@ -16,18 +19,33 @@ use Rattle.weight.specs.Status.{readingOf, statusOf}
 unfoldable pub inRange : Reading → Bool
 inRange reading = leb (reading .number) 999999 && leb (reading .point) 7
 
--- W0 W1 W2 CON to a reading
-unfoldable pub readOf : ℕ → ℕ → ℕ → ℕ → Read
-readOf w0 w1 w2 con = cond (allDecimal w0 w1 w2) (Good (readingOf (digitsOf w0 w1 w2) con)) (NotRead FieldOutside)
+-- W0 W1 W2 CON, as they follow each other in a body
+abbrev pub fourBytes : FourBytes → List ℕ
+fourBytes bytes = bytes .w0 ∷ bytes .w1 ∷ bytes .w2 ∷ bytes .con ∷ []
+
+unfoldable pub fourIn : List ℕ → FourBytes
+fourIn data′ = record { w0 = getD data′ 0 0; w1 = getD data′ 1 0; w2 = getD data′ 2 0; con = getD data′ 3 0 }
+
+-- four bytes to a reading
+unfoldable pub readOf : FourBytes → Read
+readOf bytes =
+    cond (allDecimal (bytes .w0) (bytes .w1) (bytes .w2))
+    (Good (readingOf (digitsOf (bytes .w0) (bytes .w1) (bytes .w2)) (bytes .con)))
+    (NotRead FieldOutside)
 
 -- whether they could be read: "a half above 9 is refusal 8"
 abbrev pub readable : Read → Bool
 readable (Good reading) = true
 readable (NotRead why) = false
 
--- a reading to W0 W1 W2 CON
+-- a reading to its four bytes
+abbrev pub bytesOf : Reading → FourBytes
+bytesOf reading = record {
+  w0 = pairOf (reading .number);
+  w1 = pairOf (reading .number / 100);
+  w2 = pairOf (reading .number / 10000);
+  con = statusOf reading;
+}
+
 unfoldable pub packedOf : Reading → Packed
-packedOf reading =
-    cond (inRange reading)
-    (Bytes (pairOf (reading .number)) (pairOf (reading .number / 100)) (pairOf (reading .number / 10000)) (statusOf reading))
-    (NotPacked FieldOutside)
+packedOf reading = cond (inRange reading) (Bytes (bytesOf reading)) (NotPacked FieldOutside)

@@ -19,6 +19,15 @@ pub struct Reading {
     pub overload: bool,
 }
 
+// The four bytes of a weight, as the wire and the log have them and as they cross to another language: W0 W1 W2 CON.
+#[repr(C)]
+pub struct FourBytes {
+    pub w0: u8,
+    pub w1: u8,
+    pub w2: u8,
+    pub con: u8,
+}
+
 // What four bytes are read as.
 pub enum Read {
     Good(Reading),
@@ -27,7 +36,7 @@ pub enum Read {
 
 // What a reading is written as. A refusal has no bytes, so it cannot pass for a weight of nothing.
 pub enum Packed {
-    Bytes { w0: u8, w1: u8, w2: u8, con: u8 },
+    Bytes(FourBytes),
     Refused(Refusal),
 }
 
@@ -149,12 +158,15 @@ fn with_sign(minus: bool, size: u64) -> i64
     if minus { -tenths } else { tenths }
 }
 
-// Reads W0 W1 W2 CON, as the message layer and the log have them: four bytes of a longer slice.
-pub fn read_bytes(w0: u8, w1: u8, w2: u8, con: u8) -> Read
-    ensures { λ r. ⌜ r ≡ readOf w0 w1 w2 con ⌝ }
+// Reads four bytes.
+pub fn read_bytes(bytes: FourBytes) -> Read
+    ensures { λ r. ⌜ r ≡ readOf bytes ⌝ }
 {
-    if are_decimal(w0, w1, w2) {
-        let number = two_digits(w2) * 10000 + two_digits(w1) * 100 + two_digits(w0);
+    if are_decimal(bytes.w0, bytes.w1, bytes.w2) {
+        let number = two_digits(bytes.w2) * 10000
+            + two_digits(bytes.w1) * 100
+            + two_digits(bytes.w0);
+        let con = bytes.con;
         Read::Good(Reading {
             minus: con / MINUS % 2 == 1,
             number,
@@ -175,12 +187,12 @@ pub fn to_bytes(reading: Reading) -> Packed
 {
     if in_range(reading) {
         let number = reading.number;
-        Packed::Bytes {
+        Packed::Bytes(FourBytes {
             w0: pair(number),
             w1: pair(number / 100),
             w2: pair(number / 10000),
             con: status(reading),
-        }
+        })
     } else {
         Packed::Refused(Refusal::FieldOutside)
     }

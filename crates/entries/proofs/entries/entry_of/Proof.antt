@@ -10,6 +10,9 @@ enum-known-received c = search needs
 enum-known-received-2 : tie.Need-enum-known-received-2
 enum-known-received-2 c = search needs
 
+weight-said-requires : tie.Need-weight-said-requires
+weight-said-requires c κs = search needs
+
 message-entry-requires : tie.Need-message-entry-requires
 message-entry-requires c κs = search needs
 
@@ -17,9 +20,9 @@ returns : tie.Need-returns
 returns c = rw (c .before .received .given .1)
 
 returns-2 : tie.Need-returns-2
-returns-2 c = rw (c .before .before .received2 .given .1) (c .message-entry .ensures)
+returns-2 c = rw (c .before .before .before .received2 .given .1, ← c .before .weight-said .ensures) (c .message-entry .ensures)
 
 pub entry-of-spec : {M : Type 1} → statement M
 entry-of-spec =
     tie.close
-    (tie.spec enum-known-received enum-known-received-2 message-entry-requires returns returns-2)
+    (tie.spec enum-known-received enum-known-received-2 weight-said-requires message-entry-requires returns returns-2)

@@ -3,8 +3,6 @@
 use mathlib.Core.Path.{refl}
 use native.Mathlib.Omega.{arith}
 use Rattle.codes.specs.declared.table.Row.the-variants.{Serial, Number, Status, Weight, Inputs, Outputs, Event, Converter, Error}
-use Rattle.meaning.specs.Fields.{readIn}
-use Rattle.meaning.specs.Meaning.{onIn}
 use Rattle.meaning.specs.Judging.{said}
 use Rattle.codes.proofs.Bytes.{exactly}
 use borrow.Author.Needs.{needs}
@@ -47,8 +45,8 @@ judged-requires-2 c κs = search needs
 enum-known-row-2 : tie.Need-enum-known-row-2
 enum-known-row-2 c = search needs
 
-four-in-requires : tie.Need-four-in-requires
-four-in-requires c κs = exactly (Weight _) 4 _ (c .before .row2 .given .1) refl (c .before .before .before .before .pre .0)
+weight-in-requires : tie.Need-weight-in-requires
+weight-in-requires c κs = exactly (Weight _) 4 _ (c .before .row2 .given .1) refl (c .before .before .before .before .pre .0)
 
 read-bytes-requires : tie.Need-read-bytes-requires
 read-bytes-requires c κs = search needs
@@ -62,23 +60,17 @@ enum-told-5 c = search needs
 enum-told-6 : tie.Need-enum-told-6
 enum-told-6 c = search needs
 
-four-in-requires-2 : tie.Need-four-in-requires-2
-four-in-requires-2 c κs = exactly Inputs 4 _ (c .enum-told6 .given .1) refl (c .before .before .before .pre .0)
+word-in-requires : tie.Need-word-in-requires
+word-in-requires c κs = exactly Inputs 4 _ (c .enum-told6 .given .1) refl (c .before .before .before .pre .0)
 
-word-requires : tie.Need-word-requires
-word-requires c κs = search needs
-
-count-on-requires : tie.Need-count-on-requires
-count-on-requires c κs = search needs
+on-in-requires : tie.Need-on-in-requires
+on-in-requires c κs = exactly Inputs 4 _ (c .before .enum-told6 .given .1) refl (c .before .before .before .before .pre .0)
 
 enum-told-7 : tie.Need-enum-told-7
 enum-told-7 c = search needs
 
-four-in-requires-3 : tie.Need-four-in-requires-3
-four-in-requires-3 c κs = exactly Outputs 4 _ (c .enum-told7 .given .1) refl (c .before .before .before .pre .0)
-
-word-requires-2 : tie.Need-word-requires-2
-word-requires-2 c κs = search needs
+word-in-requires-2 : tie.Need-word-in-requires-2
+word-in-requires-2 c κs = exactly Outputs 4 _ (c .enum-told7 .given .1) refl (c .before .before .before .pre .0)
 
 enum-known-row-3 : tie.Need-enum-known-row-3
 enum-known-row-3 c = search needs
@@ -125,20 +117,20 @@ unfolding said
 returns-5 c = rw (c .before .before .enum-told4 .given .1) (c .judged2 .ensures)
 
 returns-6 : tie.Need-returns-6
-unfolding said readIn
-returns-6 c = rw (c .before .before .before .before .before .before .row2 .given .1, c .before .before .before .before .four-in .ensures, ← c .before .before .before .read-bytes .ensures, c .before .reading .given .1)
+unfolding said
+returns-6 c = rw (c .before .before .before .before .before .before .row2 .given .1, ← c .before .before .before .before .weight-in .ensures, ← c .before .before .before .read-bytes .ensures, c .before .reading .given .1)
 
 returns-7 : tie.Need-returns-7
-unfolding said readIn
-returns-7 c = rw (c .before .before .before .before .before .row2 .given .1, c .before .before .before .four-in .ensures, ← c .before .before .read-bytes .ensures, c .enum-told5 .given .1)
+unfolding said
+returns-7 c = rw (c .before .before .before .before .before .row2 .given .1, ← c .before .before .before .weight-in .ensures, ← c .before .before .read-bytes .ensures, c .enum-told5 .given .1)
 
 returns-8 : tie.Need-returns-8
-unfolding said onIn
-returns-8 c = rw (c .before .before .before .enum-told6 .given .1, c .before .before .four-in2 .ensures, c .count-on .ensures, c .before .word .ensures)
+unfolding said
+returns-8 c = rw (c .before .before .enum-told6 .given .1, c .before .word-in .ensures, c .on-in .ensures)
 
 returns-9 : tie.Need-returns-9
 unfolding said
-returns-9 c = rw (c .before .before .enum-told7 .given .1, c .before .four-in3 .ensures, c .word2 .ensures)
+returns-9 c = rw (c .before .enum-told7 .given .1, c .word-in2 .ensures)
 
 returns-10 : tie.Need-returns-10
 returns-10 c = rw (c .before .before .row3 .given .1) (c .say-text .ensures)
@@ -170,17 +162,15 @@ say-spec =
     shared-slice-read-status
     judged-requires-2
     enum-known-row-2
-    four-in-requires
+    weight-in-requires
     read-bytes-requires
     enum-known-reading
     enum-told-5
     enum-told-6
-    four-in-requires-2
-    word-requires
-    count-on-requires
+    word-in-requires
+    on-in-requires
     enum-told-7
-    four-in-requires-3
-    word-requires-2
+    word-in-requires-2
     enum-known-row-3
     say-text-requires
     enum-told-8

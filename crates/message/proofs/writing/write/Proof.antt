@@ -2,9 +2,12 @@
 -- Why: what is judged before the frame writer is called stands before it in the paper's order, and it judges the rest.
 use mathlib.Core.Path.{_∙_, sym}
 use borrow.Author.Tests.{not-true, not-false}
+use Rattle.refusal.proofs.Verdicts.{under-good, under-refused}
 use Rattle.room.proofs.Leaving.{refused-leaves}
+use Rattle.frame.specs.Writing.{judgedFields, judgedWrite, writtenFrame}
+use Rattle.meaning.specs.Judging.{judgedMessage, told}
 use Rattle.message.specs.Writing.{judgedMessageWrite, writtenMessage}
-use Rattle.message.proofs.Order.{untold-leaves, told-leaves}
+use Rattle.message.proofs.Opening.{told-tells}
 use borrow.Author.Needs.{needs}
 use Rattle.message.proofs.writing.write.Statement.{statement}
 use Rattle.message.proofs.writing.write.Tie as tie
@@ -35,13 +38,22 @@ write-requires : tie.Need-write-requires
 write-requires c κs = search needs
 
 returns-2 : tie.Need-returns-2
-returns-2 c = untold-leaves _ _ _ _ _ (sym (c .before .before .before .before .before .before .legal .ensures) ∙ not-false _ (c .before .before .before .before .before .if1 .left)) _ (sym (c .before .before .before .before .tell .ensures) ∙ c .before .before .why .given .1) (c .refused-write2 .ensures)
+unfolding told writtenMessage judgedMessageWrite
+returns-2 c =
+    let tell = c .before .before .before .before in
+    let is-legal = sym (tell .before .before .legal .ensures) ∙ not-false _ (tell .before .if1 .left) in
+    rw (is-legal, under-refused told-tells (judgedMessage _ _ _) _ _ (sym (tell .tell .ensures) ∙ c .before .before .why .given .1)) (refused-leaves (c .refused-write2 .ensures))
 
 same-length : tie.Need-same-length
 same-length c = search needs
 
 returns-3 : tie.Need-returns-3
-returns-3 c = told-leaves _ _ _ _ _ (sym (c .before .before .before .before .before .before .before .before .legal .ensures) ∙ not-false _ (c .before .before .before .before .before .before .before .if1 .left)) _ (sym (c .before .before .before .before .before .before .tell .ensures) ∙ c .before .before .before .before .enum-told .given .1) (c .before .before .write .ensures)
+unfolding told writtenMessage judgedMessageWrite writtenFrame judgedWrite judgedFields
+returns-3 c =
+    let tell = c .before .before .before .before .before .before in
+    let is-legal = sym (tell .before .before .legal .ensures) ∙ not-false _ (tell .before .if1 .left) in
+    rw (is-legal, under-good told-tells (judgedMessage _ _ _) _ _ (sym (tell .tell .ensures) ∙ c .before .before .before .before .enum-told .given .1) .0)
+    (rw is-legal at (c .before .before .write .ensures))
 
 pub write-spec : {M : Type 1} → statement M
 write-spec =

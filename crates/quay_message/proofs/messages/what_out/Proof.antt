@@ -40,9 +40,6 @@ plain-requires-4 c κs = search needs
 enum-known-what-4 : tie.Need-enum-known-what-4
 enum-known-what-4 c = search needs
 
-weight-out-requires : tie.Need-weight-out-requires
-weight-out-requires c κs = search needs
-
 kind-of-requires : tie.Need-kind-of-requires
 kind-of-requires c κs = search needs
 
@@ -104,7 +101,7 @@ returns-4 : tie.Need-returns-4
 returns-4 c = rw (c .plain4 .ensures, c .before .before .what3 .given .1)
 
 returns-5 : tie.Need-returns-5
-returns-5 c = rw (c .kind-of .ensures, c .before .weight-out .ensures, c .before .before .before .what4 .given .1)
+returns-5 c = rw (c .kind-of .ensures, c .before .before .before .what4 .given .1)
 
 returns-6 : tie.Need-returns-6
 returns-6 c = rw (c .plain5 .ensures, c .before .before .what5 .given .1)
@@ -140,7 +137,6 @@ what-out-spec =
     cast-plain-3
     plain-requires-4
     enum-known-what-4
-    weight-out-requires
     kind-of-requires
     enum-known-what-5
     cast-plain-4

@@ -4,8 +4,8 @@ use borrow.Author.Needs.{needs}
 use Rattle.quay_weight.proofs.weights.quay_kilograms.Statement.{statement}
 use Rattle.quay_weight.proofs.weights.quay_kilograms.Tie as tie
 
-read-requires : tie.Need-read-requires
-read-requires c κs = search needs
+read-bytes-requires : tie.Need-read-bytes-requires
+read-bytes-requires c κs = search needs
 
 enum-known-reading : tie.Need-enum-known-reading
 enum-known-reading c = search needs
@@ -23,16 +23,16 @@ kilograms-out-requires-2 : tie.Need-kilograms-out-requires-2
 kilograms-out-requires-2 c κs = search needs
 
 returns : tie.Need-returns
-returns c = rw (c .kilograms-out .ensures, c .before .kilograms-of .ensures, ← c .before .before .before .before .before .read .ensures, c .before .before .before .reading .given .1)
+returns c = rw (c .kilograms-out .ensures, c .before .kilograms-of .ensures, ← c .before .before .before .before .before .read-bytes .ensures, c .before .before .before .reading .given .1)
 
 returns-2 : tie.Need-returns-2
-returns-2 c = rw (c .kilograms-out2 .ensures, ← c .before .before .before .before .read .ensures, c .before .before .why .given .1)
+returns-2 c = rw (c .kilograms-out2 .ensures, ← c .before .before .before .before .read-bytes .ensures, c .before .before .why .given .1)
 
 pub quay-kilograms-spec : {M : Type 1} → statement M
 quay-kilograms-spec =
     tie.close
     (tie.spec
-    read-requires
+    read-bytes-requires
     enum-known-reading
     kilograms-of-requires
     kilograms-out-requires

@@ -4,8 +4,8 @@ use borrow.Author.Needs.{needs}
 use Rattle.quay_weight.proofs.weights.quay_read_weight.Statement.{statement}
 use Rattle.quay_weight.proofs.weights.quay_read_weight.Tie as tie
 
-read-requires : tie.Need-read-requires
-read-requires c κs = search needs
+read-bytes-requires : tie.Need-read-bytes-requires
+read-bytes-requires c κs = search needs
 
 enum-known-reading : tie.Need-enum-known-reading
 enum-known-reading c = search needs
@@ -20,16 +20,16 @@ no-reading-requires : tie.Need-no-reading-requires
 no-reading-requires c κs = search needs
 
 returns : tie.Need-returns
-returns c = rw (c .good-reading .ensures, ← c .before .before .before .before .read .ensures, c .before .before .reading .given .1)
+returns c = rw (c .good-reading .ensures, ← c .before .before .before .before .read-bytes .ensures, c .before .before .reading .given .1)
 
 returns-2 : tie.Need-returns-2
-returns-2 c = rw (c .no-reading .ensures, ← c .before .before .before .before .read .ensures, c .before .before .why .given .1)
+returns-2 c = rw (c .no-reading .ensures, ← c .before .before .before .before .read-bytes .ensures, c .before .before .why .given .1)
 
 pub quay-read-weight-spec : {M : Type 1} → statement M
 quay-read-weight-spec =
     tie.close
     (tie.spec
-    read-requires
+    read-bytes-requires
     enum-known-reading
     good-reading-requires
     enum-known-why
