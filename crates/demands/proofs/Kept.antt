@@ -1,10 +1,10 @@
 -- Shown: each reply C2 or C3 that was heard stands in the log as its weighing and in the listing as its weight.
 -- Why: a body put together from such parts is read as the message of its parts, and a reading packs to the bytes that it was read from.
 use Prim.Native.Nat.{ℕ, _+_, _≤_}
-use mathlib.Core.Path.{_≡_, refl}
-use mathlib.Core.List.{List, [], _∷_, List·Memᴰ, List·Memᴰ·head, List·Memᴰ·tail, List·Memᴰ·not-nil}
+use mathlib.Core.Path.{_≡_, _∙_, refl, ap}
+use mathlib.Core.List.{List, [], _∷_, _++_}
 use native.Mathlib.Omega.{arith}
-use lib.ListN.{replicate, length-replicate}
+use lib.ListN.{length, replicate, length-replicate}
 use Rattle.refusal.specs.declared.Verdict.the-variants.{Good}
 use Rattle.body.specs.declared.addresses.Address.{Address}
 use Rattle.body.specs.declared.addresses.Address.the-variants.{Short, Serial}
@@ -41,7 +41,7 @@ use Rattle.weighing_log.specs.Hearing.{recordOf, notedHeard}
 use Rattle.weighing_log.specs.Heard.{codeOf}
 use Rattle.weighing_log.proofs.Heard.{weighing-made}
 use Rattle.entries.specs.Entries.{entryHeard}
-use Rattle.demands.specs.Kept.{WeightReply, WeightsKept, LogKeepsEach}
+use Rattle.demands.specs.Kept.{WeightReply, WeightsKept, LogInOrder}
 use Rattle.demands.specs.Weighings.{noteThen, recordsFrom}
 
 row : (load : Load) → rowOf Reply (codeOf load) ≡ Weight load
@@ -108,26 +108,25 @@ weights-kept wire kept address load four reply =
 
 -- ---- all that a line gives
 
-behind-note : (made : Noted) {item : Record} {later : List Record} → List·Memᴰ item later → List·Memᴰ item (noteThen made later)
-behind-note noted-as.Nothing among = among
-behind-note (noted-as.Record other) among = List·Memᴰ·tail among
-behind-note (noted-as.Refused why) among = among
+note-append : (made : Noted) (first second : List Record) → noteThen made (first ++ second) ≡ noteThen made first ++ second
+note-append noted-as.Nothing first second = refl
+note-append (noted-as.Record item) first second = refl
+note-append (noted-as.Refused why) first second = refl
 
-module _ (time : ℕ → ℕ) (role : Role) (one : Heard) (makes : ℕ → Record) (made : (at : ℕ) → notedHeard at role one ≡ noted-as.Record (makes at)) where
-  -- the same from any number on
-  record From (number : ℕ) (heard : List Heard) : Type 0 where
-    which : ℕ
-    among : List·Memᴰ (makes (time which)) (recordsFrom time role number heard)
+module _ (time : ℕ → ℕ) (role : Role) (one : Heard) (later : List Heard) where
+  -- what the event of a number makes, ahead of what the later ones make
+  abbrev from-there : ℕ → List Record
+  from-there number = noteThen (notedHeard (time number) role one) (recordsFrom time role (number + 1) later)
 
-  from : (number : ℕ) (heard : List Heard) → List·Memᴰ one heard → From number heard
+  in-order : (before : List Heard) (number : ℕ) → recordsFrom time role number (before ++ (one ∷ later)) ≡ recordsFrom time role number before ++ from-there (length before + number)
   unfolding recordsFrom
-  from number [] among = absurd (List·Memᴰ·not-nil among)
-  from number (heard ∷ later) (List·Memᴰ·head same) = record { which = number; among = rw (← same, made (time number)) (List·Memᴰ·head refl) }
-  from number (heard ∷ later) (List·Memᴰ·tail among) =
-      let found = from (number + 1) later among in
-      record { which = found .which; among = behind-note (notedHeard (time number) role heard) (found .among) }
+  in-order [] number = let same : length {A = Heard} [] + number ≡ number = omega arith in rw same
+  in-order (heard ∷ before) number =
+      let next : length before + (number + 1) ≡ length (heard ∷ before) + number = omega arith in
+      ap (noteThen (notedHeard (time number) role heard)) (in-order before (number + 1) ∙ rw next)
+      ∙ note-append (notedHeard (time number) role heard) (recordsFrom time role (number + 1) before) _
 
-pub log-keeps-each : LogKeepsEach
-log-keeps-each time role heard one makes among made =
-    let found = from time role one makes made 1 heard among in
-    record { number = found .which; among = found .among }
+pub log-in-order : LogInOrder
+log-in-order time role before one later =
+    let next : length before + 1 + 1 ≡ length before + 2 = omega arith in
+    in-order time role one later before 1 ∙ rw next

@@ -9,24 +9,29 @@ use lib.ListN.{getD, replicate}
 use Rattle.refusal.specs.declared.Refusal.the-variants.{BodyLong, CheckWrong, CodeUnknown, LengthWrong, FieldOutside, RoomShort}
 use Rattle.refusal.specs.declared.Verdict.{Verdict}
 use Rattle.refusal.specs.declared.Verdict.the-variants.{Good, Refused}
-use Rattle.body.specs.declared.addresses.Address.the-variants.{Short}
+use Rattle.body.specs.declared.addresses.Address.the-variants.{Short, Serial}
 use Rattle.body.specs.Addresses.{legal, addressBytes}
 use Rattle.body.specs.Body.{unchecked, bodyOf}
 use Rattle.line.specs.Listener.{Heard, nothing, frame, refused}
 use Rattle.weight.specs.declared.FourBytes.{FourBytes}
 use Rattle.weight.specs.declared.Reading.{Reading}
-use Rattle.weight.specs.Bytes.{inRange, bytesOf, packedOf}
+use Rattle.weight.specs.Bytes.{inRange, readOf, bytesOf, packedOf}
 use Rattle.codes.specs.declared.table.Role.the-variants.{Request, Reply}
 use Rattle.codes.specs.declared.table.Load.{Load}
 use Rattle.codes.specs.declared.table.Load.the-variants.{Net, Gross}
-use Rattle.records.specs.Records.{kindOf, addressOf}
+use Rattle.records.specs.Records.{kindOf, addressOf, goodAddress, goodWeighing, good}
+use Rattle.records.specs.Stepping.{wholeLog, bytesOfLog}
 use Rattle.weighing_log.specs.Hearing.{weighing}
 use Rattle.entries.specs.declared.entries.Entry.the-variants.{Weight, Message}
 use Rattle.entries.specs.declared.entries.Entry.the-variants as entry-as
 use Rattle.demands.specs.Counts.{Within, Carries}
+use Rattle.demands.specs.Kept.{WeightReply}
 use Rattle.demands.specs.Messages.{ExactlyWhere, FirstToFail}
-use Rattle.demands.specs.Weighings.{ReplyHeard, Among, WeighingHeard, ListedHeard}
+use Rattle.demands.specs.Unheard.{NotesItsWeight}
+use Rattle.demands.specs.Weighings.{ReplyHeard, Among, WeighingHeard, recordsHeard, ListedHeard}
 use Rattle.demands.specs.WrittenDown.{Sound}
+use Rattle.demands.proofs.Logs.{line-log-whole}
+use Rattle.demands.proofs.Unheard.{always-its-weight}
 
 -- ---- counts
 
@@ -113,6 +118,27 @@ listed-other h =
     let packed = h .packed in
     let same : bytesOf other ≡ h .four = cc in
     omega (arith, ap (λ (four : FourBytes). four .w0) same, reply-first (h .reply))
+
+-- ---- premises reach to the end of their range
+
+-- the highest digits and every bit of the status
+abbrev highest : FourBytes
+highest = record { w0 = 0x99; w1 = 0x99; w2 = 0x99; con = 0xFF }
+
+reply-highest : WeightReply (Serial 16_777_215) highest
+unfolding legal
+reply-highest = record { from = refl; digits = refl; status = omega arith }
+
+weighed-highest : NotesItsWeight (weighing 0 (Serial 16_777_215) Net highest)
+unfolding good goodWeighing readOf goodAddress addressOf legal
+weighed-highest = always-its-weight .weighed (weighing 0 (Serial 16_777_215) Net highest) refl refl (omega arith)
+
+-- the last time of 64 bits
+abbrev last : ℕ → ℕ
+last number = 18_446_744_073_709_551_615
+
+last-time : (heard : List Heard) → wholeLog (bytesOfLog (recordsHeard last Reply heard)) ≡ record { records = recordsHeard last Reply heard; ending = Good }
+last-time heard = line-log-whole last (λ (number : ℕ). omega arith) Reply heard
 
 -- ---- what may be written
 

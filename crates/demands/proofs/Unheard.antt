@@ -1,6 +1,6 @@
 -- Shown: nothing that is no weighing ever reads as a weight: not a record of kind 3, not what crosses in place of a record or a message; and what
 -- is one does, with its own four bytes. Why: a record's kind is asked ahead of its bytes, and what crosses without a weight has no digits.
-use Prim.Native.Nat.{ℕ, _<_}
+use Prim.Native.Nat.{ℕ, _*_, _-_, _^_, _<_}
 use mathlib.Core.Path.{_≡_, _∙_, refl, sym}
 use mathlib.Core.Bool.{Bool, true, false, cond, and-eq-true-iff}
 use mathlib.Core.List.{List}
@@ -8,6 +8,7 @@ use native.Mathlib.Omega.{arith}
 use borrow.Author.Tests.{ne-eqb, eqb-true}
 use lib.Dec.{T, eqb}
 use lib.Pow.{areBytes}
+use lib.IntN.{ℤ}
 use Rattle.refusal.specs.declared.Refusal.the-variants.{FieldOutside, RecordBroken}
 use Rattle.refusal.specs.Numbers.{numberOf}
 use Rattle.weight.specs.declared.FourBytes.{FourBytes}
@@ -17,8 +18,10 @@ use Rattle.weight.specs.declared.Read.the-variants as read-as
 use Rattle.weight.specs.declared.Value.the-variants as value-as
 use Rattle.weight.specs.Digits.{allDecimal, digitsOf}
 use Rattle.weight.specs.Status.{readingOf}
-use Rattle.weight.specs.Bytes.{readOf, readable}
+use Rattle.weight.specs.Bytes.{inRange, readOf, readable}
+use Rattle.weight.specs.Tenths.{signed, valueOf, differenceOf}
 use Rattle.weight.proofs.RoundTrip.{bytes-back}
+use Rattle.kilograms.specs.Rounded.{kilogramsOf}
 use Rattle.codes.specs.declared.table.Role.{Role}
 use Rattle.meaning.specs.declared.meaning.SaidWeight.{SaidWeight}
 use Rattle.meaning.specs.declared.meaning.What.{What}
@@ -36,7 +39,7 @@ use Rattle.records.specs.declared.reading.RecordRead.the-variants as record-rea
 use Rattle.records.specs.Records.{weighs, wasMet, weightBytes, readingIn, goodAddress, goodWeighing, good}
 use Rattle.records.specs.Weighings.{weightNoted}
 use Rattle.records.specs.Reading.{readRecord}
-use Rattle.records.proofs.Unweighed.{met-unheard, met-refusal, weighing-noted}
+use Rattle.records.proofs.Unweighed.{else-met, met-unheard, met-refusal, weighing-noted}
 use Rattle.records.specs.declared.stepping.Stepped.{Stepped}
 use Rattle.records.specs.declared.stepping.Stepped.the-variants as stepped-as
 use Rattle.weighing_log.specs.declared.hearing.Noted.{Noted}
@@ -45,6 +48,7 @@ use Rattle.records.specs.Stepping.{stepped}
 use Rattle.weighing_log.specs.Hearing.{notedHeard}
 use Rattle.weighing_log.proofs.Weighings.{carries, spelled, status-small}
 use Rattle.line.specs.Readers.{heardAs}
+use Rattle.line.specs.declared.places.Event.{Event}
 use Rattle.crossing.specs.declared.events.Given.{Given}
 use Rattle.crossing.specs.declared.events.Given.the-variants as given-as
 use Rattle.crossing.specs.declared.roles.Asked.{Asked}
@@ -53,9 +57,11 @@ use Rattle.crossing.specs.declared.events.QuayEvent.{QuayEvent}
 use Rattle.crossing.specs.Events.{eventFrom}
 use Rattle.crossing.specs.Roles.{roleFrom}
 use Rattle.quay_weight.specs.Weights.{valueOut, differenceRead}
+use Rattle.quay_message.specs.declared.messages.QuayWhat.{QuayWhat}
 use Rattle.quay_message.specs.Messages.{whatOut, receivedOut, messageIn}
 use Rattle.quay_log.specs.Records.{noDigits, recordOut, noRecord, readOut, steppedOut, notedOut, recordHeard}
-use Rattle.demands.specs.Unheard.{NotesNoWeight, NotesItsWeight, NoWeight, WeightOf, HandsOnNoWeight, HandsOnItsBytes, saysWeight, SaysItsWeight, NeverAWeight, AlwaysItsWeight}
+use Rattle.demands.proofs.WrittenDown.{read-legal}
+use Rattle.demands.specs.Unheard.{NotesNoWeight, NotesItsWeight, NoWeight, WeightOf, HandsOnNoWeight, SaysNoWeight, HandsOnItsWeight, saysWeight, SaysItsWeight, NeverAWeight, AlwaysItsWeight}
 
 -- ---- the weight that a record notes
 
@@ -68,7 +74,7 @@ not-good item none unmet reading e =
     omega arith
 
 notes-none : (item : Record) → weighs item ≡ false → NotesNoWeight item
-notes-none item none = record { no-reading = by-kind (wasMet item) refl; its-refusal = λ met is-good. met-refusal item is-good met }
+notes-none item none = record { no-reading = by-kind (wasMet item) refl; its-refusal = λ is-good. met-refusal item is-good (else-met item is-good none .0) }
   where
     by-kind : (met : Bool) → wasMet item ≡ met → (reading : Reading) → weightNoted item ≡ read-as.Good reading → ⊥
     by-kind true met = met-unheard item met
@@ -82,18 +88,30 @@ not-met item weighing = by-gross (eqb (item .kind) 1) refl
     by-gross true e = rw (eqb-true (item .kind) 1 e)
     by-gross false e = rw (eqb-true (item .kind) 2 (rw e at weighing))
 
+-- a reading within its ranges has a value
+value-is : (reading : Reading) → inRange reading ≡ true → valueOf reading ≡ value-as.Tenths (signed (reading .minus) (reading .number * 10 ^ (7 - reading .point)))
+unfolding valueOf
+value-is reading within = rw within
+
 -- four bytes that were read, with a byte for CON, are the weight of their reading
 weight-of : (mine : Reading) (bytes : FourBytes) → bytes .con < 256 → readOf bytes ≡ read-as.Good mine → WeightOf mine bytes
-weight-of mine bytes small read = record {
-  bytes = bytes-back bytes small mine read;
-  reading = rw read;
-  value = rw read;
-  kilograms = rw read;
-  less = λ (other : Reading) (net : FourBytes) (is : readOf net ≡ read-as.Good other). rw (read, is);
-}
+unfolding kilogramsOf differenceOf
+weight-of mine bytes small read =
+    let within = read-legal bytes mine read in
+    let is = value-is mine within in
+    record {
+      bytes = bytes-back bytes small mine read;
+      reading = rw read;
+      tenths = signed (mine .minus) (mine .number * 10 ^ (7 - mine .point));
+      weighs-so = is;
+      value = rw (read, is);
+      kilograms = rw (read, is);
+      less = λ (net : FourBytes) (other : Reading) (theirs : ℤ) (was : readOf net ≡ read-as.Good other) (so : valueOf other ≡ value-as.Tenths theirs).
+          rw (read, was, within, read-legal net other was, is, so);
+    }
 
-hands-on : (item : Record) → weighs item ≡ true → HandsOnItsBytes item (recordOut item)
-hands-on item weighing = rw weighing
+hands-on : (item : Record) → weighs item ≡ true → HandsOnItsWeight item (recordOut item)
+hands-on item weighing = record { kind = refl; bytes = rw weighing; good = refl }
 
 notes-its : (item : Record) → good item ≡ true → weighs item ≡ true → item .status < 256 → NotesItsWeight item
 unfolding good goodWeighing
@@ -104,7 +122,7 @@ notes-its item is-good weighing small = by-read (readingIn item) refl (and-eq-tr
       reading = reading;
       noted = weighing-noted item is-good (not-met item weighing) ∙ e;
       bytes = bytes-back (weightBytes item) small reading e;
-      across = rw (hands-on item weighing) (weight-of reading (weightBytes item) small e);
+      across = rw (hands-on item weighing .bytes) (weight-of reading (weightBytes item) small e);
     }
     by-read (read-as.Refused why) e can = let clash : _≡_ {A = Bool} true false = sym can in let z : _≡_ {A = ℕ} 0 1 = cc in absurd (omega arith)
 
@@ -136,68 +154,87 @@ no-digits con = no-weight _ refl
 
 -- ---- what crosses
 
-out-none : (item : Record) → HandsOnNoWeight (recordOut item)
-out-none item no-gross no-net = rw (ne-eqb (item .kind) 1 no-gross, ne-eqb (item .kind) 2 no-net) (no-digits (item .status))
+out-none : (item : Record) → weighs item ≡ false → HandsOnNoWeight (recordOut item)
+out-none item none = record {
+  no-gross = λ (e : item .kind ≡ 1). not-both item none (rw e);
+  no-net = λ (e : item .kind ≡ 2). not-both item none (rw e);
+  no-weight = rw none (no-digits (item .status));
+}
+  where
+    not-both : (item : Record) → weighs item ≡ false → weighs item ≡ true → ⊥
+    not-both item none weighing = let clash : _≡_ {A = ℕ} 0 1 = cc in omega arith
 
 nothing-none : (refusal : ℕ) → HandsOnNoWeight (noRecord refusal)
-nothing-none refusal no-gross no-net = no-digits 0
+nothing-none refusal = record { no-gross = λ (e : _≡_ {A = ℕ} 0 1). omega (arith, e); no-net = λ (e : _≡_ {A = ℕ} 0 2). omega (arith, e); no-weight = no-digits 0 }
 
-read-none : (entry : RecordRead) → HandsOnNoWeight (readOut entry)
-read-none (record-read-as.Record item) = out-none item
-read-none (record-read-as.Refused why) = nothing-none (numberOf why)
+read-none : (entry : RecordRead) → ((item : Record) → entry ≡ record-read-as.Record item → weighs item ≡ false) → HandsOnNoWeight (readOut entry)
+read-none (record-read-as.Record item) none = out-none item (none item refl)
+read-none (record-read-as.Refused why) none = nothing-none (numberOf why)
 
-stepped-none : (place : ℕ) (one : Stepped) → HandsOnNoWeight (steppedOut place one .item)
-stepped-none place (stepped-as.Record item next) = out-none item
-stepped-none place stepped-as.End = nothing-none 0
-stepped-none place (stepped-as.Refused why) = nothing-none (numberOf why)
+stepped-none : (place : ℕ) (one : Stepped) → ((item : Record) (next : ℕ) → one ≡ stepped-as.Record item next → weighs item ≡ false)
+    → HandsOnNoWeight (steppedOut place one .item)
+stepped-none place (stepped-as.Record item next) none = out-none item (none item next refl)
+stepped-none place stepped-as.End none = nothing-none 0
+stepped-none place (stepped-as.Refused why) none = nothing-none (numberOf why)
 
-noted-none : (noted : Noted) → HandsOnNoWeight (notedOut noted)
-noted-none (noted-as.Record item) = out-none item
-noted-none noted-as.Nothing = nothing-none 0
-noted-none (noted-as.Refused why) = nothing-none (numberOf why)
+noted-none : (noted : Noted) → ((item : Record) → noted ≡ noted-as.Record item → weighs item ≡ false) → HandsOnNoWeight (notedOut noted)
+noted-none (noted-as.Record item) none = out-none item (none item refl)
+noted-none noted-as.Nothing none = nothing-none 0
+noted-none (noted-as.Refused why) none = nothing-none (numberOf why)
 
-heard-none : (time : ℕ) (asked : Asked) (given : Given) (body : List ℕ) → HandsOnNoWeight (recordHeard time asked given body)
-heard-none time (asked-as.Refused why) given body = nothing-none (numberOf why)
-heard-none time (asked-as.Role role) (given-as.Refused why) body = nothing-none (numberOf why)
-heard-none time (asked-as.Role role) (given-as.Event event) body = noted-none (notedHeard time role (heardAs event body))
+heard-none : (time : ℕ) (asked : Asked) (given : Given) (body : List ℕ)
+    → ((role : Role) (event : Event) (item : Record) → asked ≡ asked-as.Role role → given ≡ given-as.Event event
+        → notedHeard time role (heardAs event body) ≡ noted-as.Record item → weighs item ≡ false)
+    → HandsOnNoWeight (recordHeard time asked given body)
+heard-none time (asked-as.Refused why) given body none = nothing-none (numberOf why)
+heard-none time (asked-as.Role role) (given-as.Refused why) body none = nothing-none (numberOf why)
+heard-none time (asked-as.Role role) (given-as.Event event) body none = noted-none (notedHeard time role (heardAs event body)) (λ item. none role event item refl refl)
 
-said-none : (what : What) → (whatOut what .says ≡ saysWeight → ⊥) → NoWeight (whatOut what .weight)
-said-none (says.Weight said) other = absurd (other refl)
-said-none says.Nothing other = no-digits 255
-said-none (says.Serial serial) other = no-digits 255
-said-none (says.Number number) other = no-digits 255
-said-none (says.Status status) other = no-digits 255
-said-none (says.Inputs bits on) other = no-digits 255
-said-none (says.Outputs bits) other = no-digits 255
-said-none (says.Text number from to) other = no-digits 255
-said-none (says.Event event from to) other = no-digits 255
-said-none (says.Converter number) other = no-digits 255
-said-none (says.Error error) other = no-digits 255
+-- a message across that says another thing than a weight, or nothing
+other-said : (what : QuayWhat) → (what .says ≡ saysWeight → ⊥) → what .weight ≡ record { w0 = noDigits; w1 = noDigits; w2 = noDigits; con = 255 } → SaysNoWeight what
+other-said what other none = record { other = other; no-weight = rw none (no-digits 255) }
 
-received-none : (received : Received) → (receivedOut received .what .says ≡ saysWeight → ⊥) → NoWeight (receivedOut received .what .weight)
-received-none (received-as.Message message) other = said-none (message .what) other
-received-none (received-as.Refused why) other = no-digits 255
+said-none : (what : What) → weightSaid what ≡ said-as.NoWeight → SaysNoWeight (whatOut what)
+said-none (says.Weight said) none = let clash : _≡_ {A = ℕ} 0 1 = cc in absurd (omega arith)
+said-none says.Nothing none = other-said _ (λ (e : _≡_ {A = ℕ} 0 4). omega (arith, e)) refl
+said-none (says.Serial serial) none = other-said _ (λ (e : _≡_ {A = ℕ} 1 4). omega (arith, e)) refl
+said-none (says.Number number) none = other-said _ (λ (e : _≡_ {A = ℕ} 2 4). omega (arith, e)) refl
+said-none (says.Status status) none = other-said _ (λ (e : _≡_ {A = ℕ} 3 4). omega (arith, e)) refl
+said-none (says.Inputs bits on) none = other-said _ (λ (e : _≡_ {A = ℕ} 5 4). omega (arith, e)) refl
+said-none (says.Outputs bits) none = other-said _ (λ (e : _≡_ {A = ℕ} 6 4). omega (arith, e)) refl
+said-none (says.Text number from to) none = other-said _ (λ (e : _≡_ {A = ℕ} 7 4). omega (arith, e)) refl
+said-none (says.Event event from to) none = other-said _ (λ (e : _≡_ {A = ℕ} 8 4). omega (arith, e)) refl
+said-none (says.Converter number) none = other-said _ (λ (e : _≡_ {A = ℕ} 9 4). omega (arith, e)) refl
+said-none (says.Error error) none = other-said _ (λ (e : _≡_ {A = ℕ} 10 4). omega (arith, e)) refl
 
-message-none : (asked : Asked) (body : List ℕ) → (messageIn asked body .what .says ≡ saysWeight → ⊥) → NoWeight (messageIn asked body .what .weight)
-message-none (asked-as.Role role) body other = received-none (readMessage role body) other
-message-none (asked-as.Refused why) body other = no-digits 255
+received-none : (received : Received) → ((message : Message) → received ≡ received-as.Message message → weightSaid (message .what) ≡ said-as.NoWeight)
+    → SaysNoWeight (receivedOut received .what)
+received-none (received-as.Message message) none = said-none (message .what) (none message refl)
+received-none (received-as.Refused why) none = said-none says.Nothing refl
+
+message-none : (asked : Asked) (body : List ℕ)
+    → ((role : Role) (message : Message) → asked ≡ asked-as.Role role → readMessage role body ≡ received-as.Message message → weightSaid (message .what) ≡ said-as.NoWeight)
+    → SaysNoWeight (messageIn asked body .what)
+message-none (asked-as.Role role) body none = received-none (readMessage role body) (λ message. none role message refl)
+message-none (asked-as.Refused why) body none = said-none says.Nothing refl
 
 pub never-a-weight : NeverAWeight
 never-a-weight = record {
   unweighed = notes-none;
   record-read = λ (bytes : List ℕ). read-none (readRecord bytes);
   log-stepped = λ (log : List ℕ) (place : ℕ). stepped-none place (stepped log place);
-  event-recorded = λ (time role : ℕ) (event : QuayEvent) (body : List ℕ). heard-none time (roleFrom role) (eventFrom event) body;
-  message-read = λ (role : ℕ) (body : List ℕ). message-none (roleFrom role) body;
+  event-recorded = λ (time number : ℕ) (event : QuayEvent) (body : List ℕ). heard-none time (roleFrom number) (eventFrom event) body;
+  message-read = λ (number : ℕ) (body : List ℕ). message-none (roleFrom number) body;
 }
 
 -- ---- the other half
 
 says-its : (role : Role) (body : List ℕ) (message : Message) (said : SaidWeight) → T (areBytes body) → readMessage role body ≡ received-as.Message message
-    → weightSaid (message .what) ≡ said-as.Weight said → SaysItsWeight said body (messageIn (asked-as.Role role) body .what)
+    → weightSaid (message .what) ≡ said-as.Weight said → SaysItsWeight said body (messageIn (asked-as.Role role) body)
 says-its role body message said all was says =
     let is = says-that (message .what) said says in
     record {
+      good = rw was;
       says = rw (was, is);
       kind = rw (was, is);
       bytes = rw (was, is) (spelled role body message was said says);

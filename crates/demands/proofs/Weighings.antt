@@ -104,16 +104,16 @@ reply wire kept body (all, good) is-address is-code is-data =
     record { wire = wire; kept = kept; body = ap (frame wire kept) (sym (rebuilt body all good) ∙ rw (is-address, is-code, ← is-data)) }
 
 noted : (heard : Heard) → Whole heard → (time : ℕ) (role : Role) (item : Record) → notedHeard time role heard ≡ noted-as.Record item → (item .kind ≡ 3 → ⊥)
-    → WeighingHeard role item heard
+    → (item .time ≡ time) × WeighingHeard role item heard
 noted nothing is-whole time role item e weighing = let clash : _≡_ {A = ℕ} 0 1 = cc in absurd (omega arith)
 noted (frame wire kept body) is-whole time role item e weighing =
     let was = weighing-heard role time body item e weighing in
-    record {
+    (was .at-time, record {
       load = was .load;
       kind = was .kind;
       as-reply = was .reply;
       reply = reply wire kept body is-whole (sym (was .address)) (was .code) (was .weight);
-    }
+    })
 noted (refused why wire kept) is-whole time role item e weighing = absurd (weighing (refusal-kind time why item e))
 
 -- an entry is a weight only where a message says one
@@ -171,7 +171,7 @@ module _ (time : ℕ → ℕ) (role : Role) (item : Record) (weighing : item .ki
       record {
         event = heard;
         among = List·Memᴰ·head refl;
-        such = noted heard is-whole (time number) role item (e ∙ ap noted-as.Record (sym same)) weighing;
+        such = noted heard is-whole (time number) role item (e ∙ ap noted-as.Record (sym same)) weighing .1;
       }
   by-note heard later number is-whole records behind (noted-as.Record other) e (List·Memᴰ·tail among) = one-on (behind among)
   by-note heard later number is-whole records behind (noted-as.Refused why) e among = one-on (behind among)

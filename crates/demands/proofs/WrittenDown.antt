@@ -1,16 +1,13 @@
 -- Shown: for each event of a line, its line and its record are written wherever there is room: neither 8 nor 11 comes from the line.
 -- Why: what was read has a legal address and a reading within its ranges, a record that is made is good, and a line refuses by 1 to 8.
-use Prim.Native.Nat.{ℕ, _≤_}
+use Prim.Native.Nat.{ℕ}
 use mathlib.Core.Path.{_≡_, refl}
 use mathlib.Core.Bool.{Bool, true, false, cond}
 use mathlib.Core.List.{List}
 use native.Mathlib.Omega.{arith}
-use borrow.Author.Tests.{le-ltb}
-use lib.ListN.{length}
 use Rattle.refusal.specs.declared.Refusal.{Refusal}
 use Rattle.refusal.specs.declared.Refusal.the-variants.{FieldOutside}
-use Rattle.refusal.specs.declared.Verdict.the-variants.{Good}
-use Rattle.room.specs.Writing.{wrote}
+use Rattle.room.specs.Writing.{written}
 use Rattle.line.specs.Listener.{Heard, nothing, frame, refused, hear}
 use Rattle.weight.specs.declared.FourBytes.{FourBytes}
 use Rattle.weight.specs.declared.Reading.{Reading}
@@ -31,6 +28,7 @@ use Rattle.message.specs.Reading.{readMessage}
 use Rattle.records.specs.declared.records.Record.{Record}
 use Rattle.records.specs.Layout.{bytesOfRecord}
 use Rattle.records.specs.Writing.{judgedRecord, writtenRecord}
+use Rattle.records.proofs.RoundTrip.{record-length}
 use Rattle.weighing_log.specs.declared.hearing.Noted.the-variants as noted-as
 use Rattle.weighing_log.specs.Hearing.{recordOf, notedHeard}
 use Rattle.weighing_log.proofs.Heard.{met-noted as met-made}
@@ -48,7 +46,7 @@ use Rattle.demands.specs.WrittenDown.{Sound, AlwaysWritten}
 -- ---- a message that was read
 
 -- a reading that was read lies within its ranges
-read-legal : (bytes : FourBytes) (reading : Reading) → readOf bytes ≡ read-as.Good reading → inRange reading ≡ true
+pub read-legal : (bytes : FourBytes) (reading : Reading) → readOf bytes ≡ read-as.Good reading → inRange reading ≡ true
 unfolding readOf
 read-legal bytes reading = by-decimal (allDecimal (bytes .w0) (bytes .w1) (bytes .w2)) refl
   where
@@ -95,15 +93,14 @@ line-sound (entry-as.Weight load address reading) is = is .1
 line-sound (entry-as.Message address code) is = refl
 line-sound (entry-as.Refused why) is = is
 
-line-written : (entry : Entry) → Sound entry → (number : ℕ) (room : List ℕ) → length (lineOf number entry) ≤ length room
-    → writtenLine number entry room ≡ wrote Good (lineOf number entry) room
-unfolding writtenLine
-line-written entry is number room fits = rw (line-sound entry is, le-ltb (length room) (length (lineOf number entry)) fits)
+line-written : (entry : Entry) → Sound entry → (number : ℕ) (room : List ℕ) → writtenLine number entry room ≡ written (lineOf number entry) room
+unfolding writtenLine written
+line-written entry is number room = rw (line-sound entry is)
 
-record-written : (heard : Heard) (time : ℕ) (role : Role) (item : Record) (room : List ℕ) → notedHeard time role heard ≡ noted-as.Record item → 20 ≤ length room
-    → writtenRecord item room ≡ wrote Good (bytesOfRecord item) room
-unfolding writtenRecord judgedRecord
-record-written heard time role item room e enough = rw (noted-good time role heard item e .0, le-ltb (length room) 20 enough)
+record-written : (heard : Heard) (time : ℕ) (role : Role) (item : Record) (room : List ℕ) → notedHeard time role heard ≡ noted-as.Record item
+    → writtenRecord item room ≡ written (bytesOfRecord item) room
+unfolding writtenRecord judgedRecord written
+record-written heard time role item room e = rw (noted-good time role heard item e .0, record-length item)
 
 pub always-written : AlwaysWritten
 always-written listener byte =

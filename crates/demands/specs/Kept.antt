@@ -1,9 +1,10 @@
--- 01, "Log records": "Kind 1 is a gross reply, 2 a net reply". Nothing that was heard is lost: each reply C2 or C3 stands in the log as its
--- weighing and in the listing as its weight. (That no other does: Weighings. That refusals do: Noted.)
-use Prim.Native.Nat.{ℕ, _<_}
+-- 01, "Log records": "Kind 1 is a gross reply, 2 a net reply". Nothing that was heard is lost: each reply C2 or C3 with good digits stands in the
+-- log as its weighing and in the listing as its weight. (That no other does: Weighings. That refusals do: Noted.)
+use Prim.Native.Nat.{ℕ, _+_, _<_}
 use mathlib.Core.Path.{_≡_}
 use mathlib.Core.Bool.{true}
-use mathlib.Core.List.{List, List·Memᴰ}
+use mathlib.Core.List.{List, _∷_, _++_}
+use lib.ListN.{length}
 use Rattle.body.specs.declared.addresses.Address.{Address}
 use Rattle.body.specs.Addresses.{legal}
 use Rattle.body.specs.Body.{bodyOf}
@@ -16,13 +17,12 @@ use Rattle.weight.specs.Bytes.{fourBytes, packedOf}
 use Rattle.codes.specs.declared.table.Role.{Role}
 use Rattle.codes.specs.declared.table.Role.the-variants.{Reply}
 use Rattle.codes.specs.declared.table.Load.{Load}
-use Rattle.records.specs.declared.records.Record.{Record}
 use Rattle.weighing_log.specs.declared.hearing.Noted.the-variants as noted-as
 use Rattle.weighing_log.specs.Hearing.{weighing, notedHeard}
 use Rattle.weighing_log.specs.Heard.{codeOf}
 use Rattle.entries.specs.declared.entries.Entry.the-variants as entry-as
 use Rattle.entries.specs.Entries.{entryHeard}
-use Rattle.demands.specs.Weighings.{recordsHeard}
+use Rattle.demands.specs.Weighings.{noteThen, recordsFrom, recordsHeard}
 
 -- "C2 net, C3 gross", "W0 W1 W2 CON": a frame with a legal address, "good decimal" weight bytes, and a status byte, which is any byte
 pub record WeightReply (address : Address) (four : FourBytes) : Type 0 where
@@ -50,13 +50,9 @@ WeightsKept =
 
 -- ---- all that a line gives
 
--- in the log that a line makes: at the time of some event
-pub record InLog (time : ℕ → ℕ) (role : Role) (heard : List Heard) (makes : ℕ → Record) : Type 0 where
-  pub number : ℕ
-  pub among : List·Memᴰ (makes (time number)) (recordsHeard time role heard)
-
--- each event that makes a record, a weighing or a refusal's, has it in the log
-abbrev pub LogKeepsEach : Type 0
-LogKeepsEach =
-    (time : ℕ → ℕ) (role : Role) (heard : List Heard) (one : Heard) (makes : ℕ → Record) → List·Memᴰ one heard
-    → ((at : ℕ) → notedHeard at role one ≡ noted-as.Record (makes at)) → InLog time role heard makes
+-- the log is what each event makes, in the order of the events, each at the time of its own number: none is left out, none is noted twice
+abbrev pub LogInOrder : Type 0
+LogInOrder =
+    (time : ℕ → ℕ) (role : Role) (before : List Heard) (one : Heard) (later : List Heard)
+    → recordsHeard time role (before ++ (one ∷ later))
+    ≡ recordsHeard time role before ++ noteThen (notedHeard (time (length before + 1)) role one) (recordsFrom time role (length before + 2) later)

@@ -6,6 +6,7 @@ use mathlib.Core.Path.{_≡_}
 use mathlib.Core.Bool.{true, false}
 use mathlib.Core.List.{List}
 use lib.Dec.{T}
+use lib.IntN.{ℤ, _-ℤ_}
 use lib.Pow.{areBytes}
 use Rattle.body.specs.Body.{dataIn}
 use Rattle.refusal.specs.declared.Refusal.{Refusal}
@@ -17,9 +18,9 @@ use Rattle.weight.specs.declared.Read.the-variants as read-as
 use Rattle.weight.specs.declared.Value.the-variants as value-as
 use Rattle.weight.specs.declared.Packed.the-variants as packed-as
 use Rattle.weight.specs.Bytes.{fourBytes, readOf, packedOf}
-use Rattle.weight.specs.Tenths.{valueOf, differenceOf}
+use Rattle.weight.specs.Tenths.{valueOf}
 use Rattle.kilograms.specs.declared.Kilograms.the-variants as kilograms-as
-use Rattle.kilograms.specs.Rounded.{kilogramsOf}
+use Rattle.kilograms.specs.Rounded.{rounded}
 use Rattle.line.specs.declared.places.Event.{Event}
 use Rattle.line.specs.Readers.{heardAs}
 use Rattle.codes.specs.declared.table.Role.{Role}
@@ -33,7 +34,7 @@ use Rattle.message.specs.Reading.{readMessage}
 use Rattle.records.specs.declared.records.Record.{Record}
 use Rattle.records.specs.declared.reading.RecordRead.the-variants as record-read-as
 use Rattle.records.specs.declared.stepping.Stepped.the-variants as stepped-as
-use Rattle.records.specs.Records.{kindOf, weighs, wasMet, weightBytes, good}
+use Rattle.records.specs.Records.{kindOf, weighs, weightBytes, good}
 use Rattle.records.specs.Reading.{readRecord}
 use Rattle.records.specs.Weighings.{weightNoted}
 use Rattle.records.specs.Stepping.{stepped}
@@ -46,16 +47,17 @@ use Rattle.crossing.specs.Events.{eventFrom}
 use Rattle.crossing.specs.Roles.{roleFrom}
 use Rattle.quay_weight.specs.Weights.{goodReading, noReading, readingOut, valueOut, valueRead, differenceRead, kilogramsOut, kilogramsRead}
 use Rattle.quay_message.specs.declared.messages.QuayWhat.{QuayWhat}
+use Rattle.quay_message.specs.declared.messages.QuayMessage.{QuayMessage}
 use Rattle.quay_message.specs.Messages.{messageIn}
 use Rattle.quay_log.specs.declared.logs.QuayRecord.{QuayRecord}
 use Rattle.quay_log.specs.Records.{recordOut, readOut, steppedOut, recordHeard}
 
 -- ---- in Rattle: the weight that a record notes
 
--- for what is no weighing it is never a reading, also if the record breaks a rule; for kind 3 it is the refusal that the record notes
+-- for what is no weighing it is never a reading, also if the record breaks a rule; a good one answers the refusal that it notes
 pub record NotesNoWeight (item : Record) : Type 0 where
   pub no-reading : (reading : Reading) → weightNoted item ≡ read-as.Good reading → ⊥
-  pub its-refusal : wasMet item ≡ true → good item ≡ true → (why : Refusal) → item .status ≡ numberOf why → weightNoted item ≡ read-as.Refused why
+  pub its-refusal : good item ≡ true → (why : Refusal) → item .status ≡ numberOf why → weightNoted item ≡ read-as.Refused why
 
 -- ---- across: four bytes that a caller hands on as a weight
 
@@ -67,37 +69,51 @@ pub record NoWeight (weight : FourBytes) : Type 0 where
   pub as-gross : (net : FourBytes) → valueOut (differenceRead (readOf weight) (readOf net)) ≡ valueOut (value-as.Refused FieldOutside)
   pub as-net : (gross : FourBytes) → valueOut (differenceRead (readOf gross) (readOf weight)) ≡ valueOut (value-as.Refused FieldOutside)
 
--- or each answers for one reading, whose four bytes they are
+-- or each answers for one reading, whose four bytes they are: none is refused
 pub record WeightOf (mine : Reading) (weight : FourBytes) : Type 0 where
   pub bytes : packedOf mine ≡ packed-as.Bytes weight
   pub reading : readingOut (readOf weight) ≡ goodReading mine
-  pub value : valueOut (valueRead (readOf weight)) ≡ valueOut (valueOf mine)
-  pub kilograms : kilogramsOut (kilogramsRead (readOf weight)) ≡ kilogramsOut (kilogramsOf mine)
-  pub less : (other : Reading) (net : FourBytes) → readOf net ≡ read-as.Good other
-      → valueOut (differenceRead (readOf weight) (readOf net)) ≡ valueOut (differenceOf mine other)
+  pub tenths : ℤ
+  pub weighs-so : valueOf mine ≡ value-as.Tenths tenths
+  pub value : valueOut (valueRead (readOf weight)) ≡ record { value = tenths; refusal = 0 }
+  pub kilograms : kilogramsOut (kilogramsRead (readOf weight)) ≡ record { kilograms = rounded tenths; refusal = 0 }
+  pub less : (net : FourBytes) (other : Reading) (theirs : ℤ) → readOf net ≡ read-as.Good other → valueOf other ≡ value-as.Tenths theirs
+      → valueOut (differenceRead (readOf weight) (readOf net)) ≡ record { value = tenths -ℤ theirs; refusal = 0 }
 
 -- the four bytes of a record that crossed: W0 W1 W2, and its status for CON
 abbrev pub handedOn : QuayRecord → FourBytes
-handedOn item = record { w0 = item .w0; w1 = item .w1; w2 = item .w2; con = item .status }
-
--- what is no weighing, kind 3 or no record at all, hands on no weight
-abbrev pub HandsOnNoWeight : QuayRecord → Type 0
-HandsOnNoWeight item = (item .kind ≡ kindOf Gross → ⊥) → (item .kind ≡ kindOf Net → ⊥) → NoWeight (handedOn item)
-
--- a weighing hands on exactly its own four bytes
-abbrev pub HandsOnItsBytes : Record → QuayRecord → Type 0
-HandsOnItsBytes item out = handedOn out ≡ weightBytes item
+handedOn out = record { w0 = out .w0; w1 = out .w1; w2 = out .w2; con = out .status }
 
 -- 4 says that a message says a weight
 abbrev pub saysWeight : ℕ
 saysWeight = 4
 
+-- no weighing crosses: neither by its kind nor by its bytes
+pub record HandsOnNoWeight (out : QuayRecord) : Type 0 where
+  pub no-gross : out .kind ≡ kindOf Gross → ⊥
+  pub no-net : out .kind ≡ kindOf Net → ⊥
+  pub no-weight : NoWeight (handedOn out)
+
+pub record SaysNoWeight (what : QuayWhat) : Type 0 where
+  pub other : what .says ≡ saysWeight → ⊥
+  pub no-weight : NoWeight (what .weight)
+
+-- judged by what went in: no weighing was read, stepped to or noted, no weight was said; all that was refused is among this
 pub record NeverAWeight : Type 0 where
   pub unweighed : (item : Record) → weighs item ≡ false → NotesNoWeight item
-  pub record-read : (bytes : List ℕ) → HandsOnNoWeight (readOut (readRecord bytes))
-  pub log-stepped : (log : List ℕ) (place : ℕ) → HandsOnNoWeight (steppedOut place (stepped log place) .item)
-  pub event-recorded : (time role : ℕ) (event : QuayEvent) (body : List ℕ) → HandsOnNoWeight (recordHeard time (roleFrom role) (eventFrom event) body)
-  pub message-read : (role : ℕ) (body : List ℕ) → (messageIn (roleFrom role) body .what .says ≡ saysWeight → ⊥) → NoWeight (messageIn (roleFrom role) body .what .weight)
+  pub record-read : (bytes : List ℕ) → ((item : Record) → readRecord bytes ≡ record-read-as.Record item → weighs item ≡ false)
+      → HandsOnNoWeight (readOut (readRecord bytes))
+  pub log-stepped : (log : List ℕ) (place : ℕ)
+      → ((item : Record) (next : ℕ) → stepped log place ≡ stepped-as.Record item next → weighs item ≡ false)
+      → HandsOnNoWeight (steppedOut place (stepped log place) .item)
+  pub event-recorded : (time number : ℕ) (event : QuayEvent) (body : List ℕ)
+      → ((role : Role) (given : Event) (item : Record) → roleFrom number ≡ asked-as.Role role → eventFrom event ≡ given-as.Event given
+          → notedHeard time role (heardAs given body) ≡ noted-as.Record item → weighs item ≡ false)
+      → HandsOnNoWeight (recordHeard time (roleFrom number) (eventFrom event) body)
+  pub message-read : (number : ℕ) (body : List ℕ)
+      → ((role : Role) (message : Message) → roleFrom number ≡ asked-as.Role role → readMessage role body ≡ received-as.Message message
+          → weightSaid (message .what) ≡ said-as.NoWeight)
+      → SaysNoWeight (messageIn (roleFrom number) body .what)
 
 -- ---- the other half
 
@@ -108,22 +124,29 @@ pub record NotesItsWeight (item : Record) : Type 0 where
   pub bytes : packedOf reading ≡ packed-as.Bytes (weightBytes item)
   pub across : WeightOf reading (handedOn (recordOut item))
 
--- a message that says a weight crosses as one, with exactly the four bytes that were heard
-pub record SaysItsWeight (said : SaidWeight) (body : List ℕ) (what : QuayWhat) : Type 0 where
-  pub says : what .says ≡ saysWeight
-  pub kind : what .load ≡ kindOf (said .load)
-  pub bytes : fourBytes (what .weight) ≡ dataIn body
-  pub weight : WeightOf (said .reading) (what .weight)
+-- a weighing crosses as what it is, with exactly its own four bytes, and is not refused
+pub record HandsOnItsWeight (item : Record) (out : QuayRecord) : Type 0 where
+  pub kind : out .kind ≡ item .kind
+  pub bytes : handedOn out ≡ weightBytes item
+  pub good : out .refusal ≡ 0
+
+-- a message that says a weight crosses as one, with exactly the four bytes that were heard, and is not refused
+pub record SaysItsWeight (said : SaidWeight) (body : List ℕ) (out : QuayMessage) : Type 0 where
+  pub says : out .what .says ≡ saysWeight
+  pub kind : out .what .load ≡ kindOf (said .load)
+  pub bytes : fourBytes (out .what .weight) ≡ dataIn body
+  pub weight : WeightOf (said .reading) (out .what .weight)
+  pub good : out .refusal ≡ 0
 
 pub record AlwaysItsWeight : Type 0 where
   pub weighed : (item : Record) → good item ≡ true → weighs item ≡ true → item .status < 256 → NotesItsWeight item
   pub record-read : (bytes : List ℕ) (item : Record) → readRecord bytes ≡ record-read-as.Record item → weighs item ≡ true
-      → HandsOnItsBytes item (readOut (readRecord bytes))
+      → HandsOnItsWeight item (readOut (readRecord bytes))
   pub log-stepped : (log : List ℕ) (place next : ℕ) (item : Record) → stepped log place ≡ stepped-as.Record item next → weighs item ≡ true
-      → HandsOnItsBytes item (steppedOut place (stepped log place) .item)
+      → HandsOnItsWeight item (steppedOut place (stepped log place) .item)
   pub event-recorded : (time number : ℕ) (role : Role) (event : QuayEvent) (given : Event) (body : List ℕ) (item : Record)
       → roleFrom number ≡ asked-as.Role role → eventFrom event ≡ given-as.Event given → notedHeard time role (heardAs given body) ≡ noted-as.Record item
-      → weighs item ≡ true → HandsOnItsBytes item (recordHeard time (roleFrom number) (eventFrom event) body)
+      → weighs item ≡ true → HandsOnItsWeight item (recordHeard time (roleFrom number) (eventFrom event) body)
   pub message-read : (number : ℕ) (role : Role) (body : List ℕ) (message : Message) (said : SaidWeight) → T (areBytes body)
       → roleFrom number ≡ asked-as.Role role → readMessage role body ≡ received-as.Message message → weightSaid (message .what) ≡ said-as.Weight said
-      → SaysItsWeight said body (messageIn (roleFrom number) body .what)
+      → SaysItsWeight said body (messageIn (roleFrom number) body)

@@ -50,12 +50,12 @@ pub record WeighingHeard (role : Role) (item : Record) (heard : Heard) : Type 0 
   pub as-reply : role ≡ Reply
   pub reply : ReplyHeard heard load (addressOf item) (weightBytes item)
 
--- each event: any record that it makes and that is no refusal's
+-- each event: any record that it makes and that is no refusal's, at the time that was given
 abbrev pub NotedAsHeard : Type 0
 NotedAsHeard =
     (reader : Reader) → T (areBytes (reader .body)) → (byte time : ℕ) (role : Role) (item : Record)
     → notedHeard time role (hear (view reader) byte .event) ≡ noted-as.Record item → (item .kind ≡ metKind → ⊥)
-    → WeighingHeard role item (hear (view reader) byte .event)
+    → (item .time ≡ time) × WeighingHeard role item (hear (view reader) byte .event)
 
 -- a record, where there is one, ahead of those behind it
 abbrev pub noteThen : Noted → List Record → List Record

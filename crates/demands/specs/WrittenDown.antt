@@ -1,21 +1,19 @@
 -- What a line gives can always be written down, in the log and in the listing. No weight that was heard is lost because a writer refuses it.
 -- "A reading handed in with a number above 999,999 or a point above 7 is refusal 8 wherever it is used"; "Writing a record judges 11, then 9."
 -- What comes from the line is refused neither by 8 nor by 11. This holds for each event that a byte gives, in any state.
-use Prim.Native.Nat.{ℕ, _≤_}
+use Prim.Native.Nat.{ℕ}
 use mathlib.Core.Path.{_≡_}
 use mathlib.Core.Bool.{true}
 use mathlib.Core.List.{List}
-use lib.ListN.{length}
 use Rattle.refusal.specs.declared.Refusal.{Refusal}
-use Rattle.refusal.specs.declared.Verdict.the-variants.{Good}
 use Rattle.refusal.specs.Numbers.{numberOf, lineStatus}
-use Rattle.room.specs.Writing.{wrote}
+use Rattle.room.specs.Writing.{written}
 use Rattle.body.specs.Addresses.{legal}
 use Rattle.line.specs.Listener.{Heard, Listener, hear}
 use Rattle.weight.specs.Bytes.{inRange}
 use Rattle.codes.specs.declared.table.Role.{Role}
 use Rattle.records.specs.declared.records.Record.{Record}
-use Rattle.records.specs.Layout.{recordBytes, bytesOfRecord}
+use Rattle.records.specs.Layout.{bytesOfRecord}
 use Rattle.records.specs.Writing.{writtenRecord}
 use Rattle.weighing_log.specs.declared.hearing.Noted.the-variants as noted-as
 use Rattle.weighing_log.specs.Hearing.{notedHeard}
@@ -34,14 +32,13 @@ Sound (Refused why) = lineStatus (numberOf why) ≡ true
 
 pub record CanBeWritten (heard : Heard) : Type 0 where
   pub sound : Sound (entryHeard heard)
-  -- its line, if the room is long enough for it
-  pub line : (number : ℕ) (room : List ℕ) → length (lineOf number (entryHeard heard)) ≤ length room
-      → writtenLine number (entryHeard heard) room ≡ wrote Good (lineOf number (entryHeard heard)) room
+  -- its line is judged by the room alone: 9
+  pub line : (number : ℕ) (room : List ℕ) → writtenLine number (entryHeard heard) room ≡ written (lineOf number (entryHeard heard)) room
   -- noting it is never refused
   pub noted : (time : ℕ) (role : Role) (why : Refusal) → notedHeard time role heard ≡ noted-as.Refused why → ⊥
-  -- its record, if the room has 20 bytes
-  pub item : (time : ℕ) (role : Role) (item : Record) (room : List ℕ) → notedHeard time role heard ≡ noted-as.Record item → recordBytes ≤ length room
-      → writtenRecord item room ≡ wrote Good (bytesOfRecord item) room
+  -- its record is judged by the room alone too
+  pub item : (time : ℕ) (role : Role) (item : Record) (room : List ℕ) → notedHeard time role heard ≡ noted-as.Record item
+      → writtenRecord item room ≡ written (bytesOfRecord item) room
 
 abbrev pub AlwaysWritten : Type 0
 AlwaysWritten = (listener : Listener) (byte : ℕ) → CanBeWritten (hear listener byte .event)
