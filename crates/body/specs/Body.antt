@@ -9,7 +9,7 @@ use lib.Dec.{ltb, eqb}
 use Rattle.refusal.specs.declared.Refusal.the-variants.{BodyShort, BodyLong, CheckWrong, AddressIllegal}
 use Rattle.refusal.specs.declared.Verdict.{Verdict}
 use Rattle.refusal.specs.declared.Verdict.the-variants.{Good}
-use Rattle.refusal.specs.Numbers.{refuseIf, under}
+use Rattle.refusal.specs.Numbers.{refuseIf, byVerdict}
 use Rattle.check_byte.specs.Register.{received, checkOf}
 use Rattle.body.specs.declared.addresses.Address.{Address}
 use Rattle.body.specs.declared.bodies.Parts.{Parts}
@@ -68,7 +68,7 @@ partsOf body = record { address = addressIn body; code = codeIn body; from = add
 -- a lent body taken apart, or the refusal it earns; an argument says whether the check is right. A body that a line handed out had a right
 -- one, so it isn't tested again
 unfoldable pub openedIf : Bool → List ℕ → Opened
-openedIf right body = under opened-as.Parts opened-as.Refused (judgedLentIf right body) (partsOf body)
+openedIf right body = byVerdict opened-as.Parts opened-as.Refused (judgedLentIf right body) (partsOf body)
 
 abbrev pub openedBody : List ℕ → Opened
 openedBody body = openedIf (checkRight body) body

@@ -19,7 +19,7 @@ use Rattle.weight.specs.declared.Read.the-variants as read-as
 use Rattle.weight.specs.declared.Packed.the-variants as packed-as
 use Rattle.weight.specs.Digits.{digitsOf}
 use Rattle.weight.specs.Status.{readingOf}
-use Rattle.weight.specs.Bytes.{fourBytes, fourIn, readOf, packedOf}
+use Rattle.weight.specs.Bytes.{inOrder, fourIn, readOf, packedOf}
 use Rattle.weight.proofs.RoundTrip.{bytes-back}
 use Rattle.codes.specs.declared.table.Role.{Role}
 use Rattle.codes.specs.declared.table.Role.the-variants.{Reply}
@@ -55,12 +55,12 @@ at-most-four (Short byte) = omega arith
 at-most-four (Serial serial) = omega arith
 
 module _ (address : Address) (load : Load) (four : FourBytes) (reply : WeightReply address four) where
-  four-of : fourIn (fourBytes four) ≡ four
+  four-of : fourIn (inOrder four) ≡ four
   unfolding fourIn
   four-of = refl
 
   body : List ℕ
-  body = bodyOf address (codeOf load) (fourBytes four)
+  body = bodyOf address (codeOf load) (inOrder four)
 
   reading : Reading
   reading = readingOf (digitsOf (four .w0) (four .w1) (four .w2)) (four .con)
@@ -72,7 +72,7 @@ module _ (address : Address) (load : Load) (four : FourBytes) (reply : WeightRep
   packs : packedOf reading ≡ packed-as.Bytes four
   packs = bytes-back four (reply .status) reading read
 
-  right : judgedMessage Reply (codeOf load) (fourBytes four) ≡ Good
+  right : judgedMessage Reply (codeOf load) (inOrder four) ≡ Good
   unfolding judgedMessage judgedCode judgedData
   right = rw (row load, four-of, read)
 
@@ -80,17 +80,17 @@ module _ (address : Address) (load : Load) (four : FourBytes) (reply : WeightRep
   room : List ℕ
   room = replicate (needed body) 0
 
-  writable : judgedMessageWrite Reply address (codeOf load) (fourBytes four) room ≡ Good
+  writable : judgedMessageWrite Reply address (codeOf load) (inOrder four) room ≡ Good
   unfolding body room
   writable =
-      may-be-written Reply address (codeOf load) (fourBytes four) room (reply .from) right
-      (omega (arith, body-length address (codeOf load) (fourBytes four), at-most-four address)) (omega (arith, length-replicate {A = ℕ} (needed body) 0))
+      may-be-written Reply address (codeOf load) (inOrder four) room (reply .from) right
+      (omega (arith, body-length address (codeOf load) (inOrder four), at-most-four address)) (omega (arith, length-replicate {A = ℕ} (needed body) 0))
 
-  is-read : readMessage Reply body ≡ received-as.Message (messageOf Reply address (codeOf load) (fourBytes four))
+  is-read : readMessage Reply body ≡ received-as.Message (messageOf Reply address (codeOf load) (inOrder four))
   unfolding body
-  is-read = read-back Reply address (codeOf load) (fourBytes four) room writable
+  is-read = read-back Reply address (codeOf load) (inOrder four) room writable
 
-  says : weightSaid (messageOf Reply address (codeOf load) (fourBytes four) .what) ≡ said-as.Weight (record { load = load; bytes = four; reading = reading })
+  says : weightSaid (messageOf Reply address (codeOf load) (inOrder four) .what) ≡ said-as.Weight (record { load = load; bytes = four; reading = reading })
   unfolding messageOf
   says = rw (row load, four-of, read)
 

@@ -19,7 +19,7 @@ use Rattle.line.specs.Listener.{State, seeking, delimited, inside, held, Heard,
 use Rattle.line.specs.Readers.{listening, freshReader}
 use Rattle.line.proofs.EveryStep.{every-event}
 use Rattle.weight.specs.declared.FourBytes.{FourBytes}
-use Rattle.weight.specs.Bytes.{fourBytes}
+use Rattle.weight.specs.Bytes.{inOrder}
 use Rattle.codes.specs.declared.table.Load.{Load}
 use Rattle.records.specs.Records.{addressOf}
 use Rattle.weighing_log.specs.Heard.{codeOf}
@@ -198,7 +198,7 @@ frames-on-the-wire bytes wire kept body among =
 reply-in : (bytes : List ℕ) (heard : Heard) (load : Load) (address : Address) (four : FourBytes) → List·Memᴰ heard (events fresh bytes)
     → ReplyHeard heard load address four → ReplyIn bytes load address four
 reply-in bytes heard load address four among reply =
-    let body = bodyOf address (codeOf load) (fourBytes four) in
+    let body = bodyOf address (codeOf load) (inOrder four) in
     record {
       wire = reply .wire;
       stands =

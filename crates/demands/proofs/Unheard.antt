@@ -5,7 +5,7 @@ use mathlib.Core.Path.{_≡_, _∙_, refl, sym}
 use mathlib.Core.Bool.{Bool, true, false, cond, and-eq-true-iff}
 use mathlib.Core.List.{List}
 use native.Mathlib.Omega.{arith}
-use borrow.Author.Tests.{ne-eqb, eqb-true}
+use borrow.Author.Tests.{eqb-true}
 use lib.Dec.{T, eqb}
 use lib.Pow.{areBytes}
 use lib.IntN.{ℤ}
@@ -61,7 +61,7 @@ use Rattle.quay_message.specs.declared.messages.QuayWhat.{QuayWhat}
 use Rattle.quay_message.specs.Messages.{whatOut, receivedOut, messageIn}
 use Rattle.quay_log.specs.Records.{noDigits, recordOut, noRecord, readOut, steppedOut, notedOut, recordHeard}
 use Rattle.demands.proofs.WrittenDown.{read-legal}
-use Rattle.demands.specs.Unheard.{NotesNoWeight, NotesItsWeight, NoWeight, WeightOf, HandsOnNoWeight, SaysNoWeight, HandsOnItsWeight, saysWeight, SaysItsWeight, NeverAWeight, AlwaysItsWeight}
+use Rattle.demands.specs.Unheard.{NotesNoWeight, NotesItsWeight, ReadsAsNone, WeightOf, HandsOnNoWeight, SaysNoWeight, HandsOnItsWeight, saysWeight, SaysItsWeight, NeverAWeight, AlwaysItsWeight}
 
 -- ---- the weight that a record notes
 
@@ -138,7 +138,7 @@ less-none gross = by-digits (allDecimal (gross .w0) (gross .w1) (gross .w2))
     by-digits true = refl
     by-digits false = refl
 
-no-weight : (weight : FourBytes) → readOf weight ≡ read-as.Refused FieldOutside → NoWeight weight
+no-weight : (weight : FourBytes) → readOf weight ≡ read-as.Refused FieldOutside → ReadsAsNone weight
 no-weight weight e = record {
   reading = rw e;
   value = rw e;
@@ -148,7 +148,7 @@ no-weight weight e = record {
 }
 
 -- three bytes FF read as none, whatever stands for CON
-no-digits : (con : ℕ) → NoWeight (record { w0 = noDigits; w1 = noDigits; w2 = noDigits; con = con })
+no-digits : (con : ℕ) → ReadsAsNone (record { w0 = noDigits; w1 = noDigits; w2 = noDigits; con = con })
 unfolding readOf
 no-digits con = no-weight _ refl
 
@@ -184,7 +184,7 @@ noted-none (noted-as.Refused why) none = nothing-none (numberOf why)
 
 heard-none : (time : ℕ) (asked : Asked) (given : Given) (body : List ℕ)
     → ((role : Role) (event : Event) (item : Record) → asked ≡ asked-as.Role role → given ≡ given-as.Event event
-        → notedHeard time role (heardAs event body) ≡ noted-as.Record item → weighs item ≡ false)
+    → notedHeard time role (heardAs event body) ≡ noted-as.Record item → weighs item ≡ false)
     → HandsOnNoWeight (recordHeard time asked given body)
 heard-none time (asked-as.Refused why) given body none = nothing-none (numberOf why)
 heard-none time (asked-as.Role role) (given-as.Refused why) body none = nothing-none (numberOf why)

@@ -22,7 +22,7 @@ use Rattle.line.proofs.EveryStep.{every-step, every-told, every-event}
 use Rattle.line.proofs.Joined.{kept-front}
 use Rattle.weight.specs.declared.FourBytes.{FourBytes}
 use Rattle.weight.specs.declared.Reading.{Reading}
-use Rattle.weight.specs.Bytes.{fourBytes, packedOf}
+use Rattle.weight.specs.Bytes.{inOrder, packedOf}
 use Rattle.codes.specs.declared.table.Role.{Role}
 use Rattle.codes.specs.declared.table.Role.the-variants.{Reply}
 use Rattle.codes.specs.declared.table.Load.{Load}
@@ -99,7 +99,7 @@ all-whole reader all bytes small =
 
 -- a good body is its parts again
 reply : (wire kept : ℕ) (body : List ℕ) → Whole (frame wire kept body) → {load : Load} {address : Address} {four : FourBytes} → addressIn body ≡ address
-    → codeIn body ≡ codeOf load → fourBytes four ≡ dataIn body → ReplyHeard (frame wire kept body) load address four
+    → codeIn body ≡ codeOf load → inOrder four ≡ dataIn body → ReplyHeard (frame wire kept body) load address four
 reply wire kept body (all, good) is-address is-code is-data =
     record { wire = wire; kept = kept; body = ap (frame wire kept) (sym (rebuilt body all good) ∙ rw (is-address, is-code, ← is-data)) }
 
@@ -107,13 +107,15 @@ noted : (heard : Heard) → Whole heard → (time : ℕ) (role : Role) (item : R
     → (item .time ≡ time) × WeighingHeard role item heard
 noted nothing is-whole time role item e weighing = let clash : _≡_ {A = ℕ} 0 1 = cc in absurd (omega arith)
 noted (frame wire kept body) is-whole time role item e weighing =
-    let was = weighing-heard role time body item e weighing in
-    (was .at-time, record {
-      load = was .load;
-      kind = was .kind;
-      as-reply = was .reply;
-      reply = reply wire kept body is-whole (sym (was .address)) (was .code) (was .weight);
-    })
+    let was = weighing-heard role time body item e weighing in (
+      was .at-time,
+      record {
+        load = was .load;
+        kind = was .kind;
+        as-reply = was .reply;
+        reply = reply wire kept body is-whole (sym (was .address)) (was .code) (was .weight);
+      },
+    )
 noted (refused why wire kept) is-whole time role item e weighing = absurd (weighing (refusal-kind time why item e))
 
 -- an entry is a weight only where a message says one

@@ -79,7 +79,7 @@ zeros count check = 0x01 ∷ (replicate count 0 ++ (check ∷ []))
 abbrev pub oneZeroMore : List ℕ
 oneZeroMore = zeros 254 0x01
 
--- "gross, 25.1 kg, unsettled", and "net, minus 0.5 kg, settled", each with its four bytes
+-- "reply, 25.1 kg, not settled", and "reply, minus 0.5 kg, settled", each with its four bytes
 abbrev pub e3 : SaidWeight
 e3 = record {
   load = Gross;

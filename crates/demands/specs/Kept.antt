@@ -13,7 +13,7 @@ use Rattle.weight.specs.declared.FourBytes.{FourBytes}
 use Rattle.weight.specs.declared.Reading.{Reading}
 use Rattle.weight.specs.declared.Packed.the-variants as packed-as
 use Rattle.weight.specs.Digits.{allDecimal}
-use Rattle.weight.specs.Bytes.{fourBytes, packedOf}
+use Rattle.weight.specs.Bytes.{inOrder, packedOf}
 use Rattle.codes.specs.declared.table.Role.{Role}
 use Rattle.codes.specs.declared.table.Role.the-variants.{Reply}
 use Rattle.codes.specs.declared.table.Load.{Load}
@@ -31,7 +31,7 @@ pub record WeightReply (address : Address) (four : FourBytes) : Type 0 where
   pub status : four .con < 256
 
 abbrev pub replyFrame : ℕ → ℕ → Address → Load → FourBytes → Heard
-replyFrame wire kept address load four = frame wire kept (bodyOf address (codeOf load) (fourBytes four))
+replyFrame wire kept address load four = frame wire kept (bodyOf address (codeOf load) (inOrder four))
 
 -- in the listing it is a weight from its address, of the reading that packs to its four bytes
 pub record ListedWeight (heard : Heard) (address : Address) (load : Load) (four : FourBytes) : Type 0 where

@@ -13,7 +13,7 @@ use Rattle.line.specs.Listener.{frame, fresh, hear, events, after}
 use Rattle.weight.specs.declared.FourBytes.{FourBytes}
 use Rattle.weight.specs.declared.Reading.{Reading}
 use Rattle.weight.specs.declared.Packed.the-variants as packed-as
-use Rattle.weight.specs.Bytes.{fourBytes, packedOf}
+use Rattle.weight.specs.Bytes.{inOrder, packedOf}
 use Rattle.codes.specs.declared.table.Role.{Role}
 use Rattle.codes.specs.declared.table.Role.the-variants.{Reply}
 use Rattle.codes.specs.declared.table.Load.{Load}
@@ -50,7 +50,7 @@ FramesOnTheWire = (bytes : List ℕ) (wire kept : ℕ) (body : List ℕ) → Lis
 -- a reply C2 or C3 with these four bytes stands in some bytes
 pub record ReplyIn (bytes : List ℕ) (load : Load) (address : Address) (four : FourBytes) : Type 0 where
   pub wire : ℕ
-  pub stands : StandsIn bytes wire (bodyOf address (codeOf load) (fourBytes four))
+  pub stands : StandsIn bytes wire (bodyOf address (codeOf load) (inOrder four))
 
 -- no weighing in the log that a line makes, unless its reply stands in the bytes taken
 pub record WeighedIn (bytes : List ℕ) (role : Role) (item : Record) : Type 0 where

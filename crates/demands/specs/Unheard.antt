@@ -17,7 +17,7 @@ use Rattle.weight.specs.declared.Reading.{Reading}
 use Rattle.weight.specs.declared.Read.the-variants as read-as
 use Rattle.weight.specs.declared.Value.the-variants as value-as
 use Rattle.weight.specs.declared.Packed.the-variants as packed-as
-use Rattle.weight.specs.Bytes.{fourBytes, readOf, packedOf}
+use Rattle.weight.specs.Bytes.{inOrder, readOf, packedOf}
 use Rattle.weight.specs.Tenths.{valueOf}
 use Rattle.kilograms.specs.declared.Kilograms.the-variants as kilograms-as
 use Rattle.kilograms.specs.Rounded.{rounded}
@@ -62,7 +62,7 @@ pub record NotesNoWeight (item : Record) : Type 0 where
 -- ---- across: four bytes that a caller hands on as a weight
 
 -- the four functions on weights refuse them, by fields that no weight has
-pub record NoWeight (weight : FourBytes) : Type 0 where
+pub record ReadsAsNone (weight : FourBytes) : Type 0 where
   pub reading : readingOut (readOf weight) ≡ noReading FieldOutside
   pub value : valueOut (valueRead (readOf weight)) ≡ valueOut (value-as.Refused FieldOutside)
   pub kilograms : kilogramsOut (kilogramsRead (readOf weight)) ≡ kilogramsOut (kilograms-as.Refused FieldOutside)
@@ -92,11 +92,11 @@ saysWeight = 4
 pub record HandsOnNoWeight (out : QuayRecord) : Type 0 where
   pub no-gross : out .kind ≡ kindOf Gross → ⊥
   pub no-net : out .kind ≡ kindOf Net → ⊥
-  pub no-weight : NoWeight (handedOn out)
+  pub no-weight : ReadsAsNone (handedOn out)
 
 pub record SaysNoWeight (what : QuayWhat) : Type 0 where
   pub other : what .says ≡ saysWeight → ⊥
-  pub no-weight : NoWeight (what .weight)
+  pub no-weight : ReadsAsNone (what .weight)
 
 -- judged by what went in: no weighing was read, stepped to or noted, no weight was said; all that was refused is among this
 pub record NeverAWeight : Type 0 where
@@ -108,11 +108,11 @@ pub record NeverAWeight : Type 0 where
       → HandsOnNoWeight (steppedOut place (stepped log place) .item)
   pub event-recorded : (time number : ℕ) (event : QuayEvent) (body : List ℕ)
       → ((role : Role) (given : Event) (item : Record) → roleFrom number ≡ asked-as.Role role → eventFrom event ≡ given-as.Event given
-          → notedHeard time role (heardAs given body) ≡ noted-as.Record item → weighs item ≡ false)
+      → notedHeard time role (heardAs given body) ≡ noted-as.Record item → weighs item ≡ false)
       → HandsOnNoWeight (recordHeard time (roleFrom number) (eventFrom event) body)
   pub message-read : (number : ℕ) (body : List ℕ)
       → ((role : Role) (message : Message) → roleFrom number ≡ asked-as.Role role → readMessage role body ≡ received-as.Message message
-          → weightSaid (message .what) ≡ said-as.NoWeight)
+      → weightSaid (message .what) ≡ said-as.NoWeight)
       → SaysNoWeight (messageIn (roleFrom number) body .what)
 
 -- ---- the other half
@@ -134,7 +134,7 @@ pub record HandsOnItsWeight (item : Record) (out : QuayRecord) : Type 0 where
 pub record SaysItsWeight (said : SaidWeight) (body : List ℕ) (out : QuayMessage) : Type 0 where
   pub says : out .what .says ≡ saysWeight
   pub kind : out .what .load ≡ kindOf (said .load)
-  pub bytes : fourBytes (out .what .weight) ≡ dataIn body
+  pub bytes : inOrder (out .what .weight) ≡ dataIn body
   pub weight : WeightOf (said .reading) (out .what .weight)
   pub good : out .refusal ≡ 0
 

@@ -15,7 +15,7 @@ use Rattle.line.specs.Readers.{view}
 use Rattle.weight.specs.declared.FourBytes.{FourBytes}
 use Rattle.weight.specs.declared.Reading.{Reading}
 use Rattle.weight.specs.declared.Packed.the-variants as packed-as
-use Rattle.weight.specs.Bytes.{fourBytes, packedOf}
+use Rattle.weight.specs.Bytes.{inOrder, packedOf}
 use Rattle.codes.specs.declared.table.Role.{Role}
 use Rattle.codes.specs.declared.table.Role.the-variants.{Reply}
 use Rattle.codes.specs.declared.table.Load.{Load}
@@ -33,7 +33,7 @@ use Rattle.listing.specs.Whole.{listed, listing}
 pub record ReplyHeard (heard : Heard) (load : Load) (address : Address) (four : FourBytes) : Type 0 where
   pub wire : ℕ
   pub kept : ℕ
-  pub body : heard ≡ frame wire kept (bodyOf address (codeOf load) (fourBytes four))
+  pub body : heard ≡ frame wire kept (bodyOf address (codeOf load) (inOrder four))
 
 -- there is such an event among those heard
 pub record Among (heard : List Heard) (Such : Heard → Type 0) : Type 0 where

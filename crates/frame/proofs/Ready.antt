@@ -14,7 +14,7 @@ use Rattle.refusal.specs.declared.Refusal.the-variants.{AddressIllegal, BodyLon
 use Rattle.refusal.specs.declared.Verdict.{Verdict}
 use Rattle.refusal.specs.declared.Verdict.the-variants.{Good, Refused}
 use Rattle.refusal.specs.Numbers.{refuseIf}
-use Rattle.refusal.proofs.Verdicts.{refused-not-good, test-passed, rest-passed, Tells, under-good, under-refused}
+use Rattle.refusal.proofs.Verdicts.{refused-not-good, test-passed, rest-passed, Tells, verdict-good, verdict-refused}
 use Rattle.room.specs.Laying.{Laid}
 use Rattle.room.specs.Writing.{judgedRoom}
 use Rattle.room.proofs.Over.{laid-front}
@@ -65,7 +65,7 @@ module _ (address : Address) (code : ℕ) (data′ : List ℕ) where
   pub bytes-good : {n : ℕ} {empty left : List ℕ} → Prepared address code data′ empty (needed-as.Bytes n) left
       → (judgedFields address code data′ Good ≡ Good) × (n ≡ needed (bodyOf address code data′))
   unfolding neededFor
-  bytes-good {n} p = under-good needed-tells (judgedFields address code data′ Good) _ n (sym (p .answer))
+  bytes-good {n} p = verdict-good needed-tells (judgedFields address code data′ Good) _ n (sym (p .answer))
 
   pub good-length : judgedFields address code data′ Good ≡ Good → length (bodyOf address code data′) ≤ 255
   unfolding judgedFields
@@ -83,7 +83,7 @@ module _ (address : Address) (code : ℕ) (data′ : List ℕ) where
       → judgedWrite address code data′ room ≡ Refused why
   unfolding neededFor judgedWrite judgedFields
   fields-refused {why} room p =
-      let verdict = under-refused needed-tells (judgedFields address code data′ Good) _ why (sym (p .answer)) in
+      let verdict = verdict-refused needed-tells (judgedFields address code data′ Good) _ why (sym (p .answer)) in
       chain-refused (not (legal address)) (ltb 255 (length (bodyOf address code data′))) _ _ (judgedRoom (needed (bodyOf address code data′)) room) why verdict
 
   pub room-left : {n : ℕ} {empty left : List ℕ} (room : List ℕ) → Prepared address code data′ empty (needed-as.Bytes n) left

@@ -7,7 +7,7 @@ use lib.Dec.{ltb}
 use Rattle.refusal.specs.declared.Refusal.the-variants.{AddressIllegal, BodyLong}
 use Rattle.refusal.specs.declared.Verdict.{Verdict}
 use Rattle.refusal.specs.declared.Verdict.the-variants.{Good}
-use Rattle.refusal.specs.Numbers.{refuseIf, under}
+use Rattle.refusal.specs.Numbers.{refuseIf, byVerdict}
 use Rattle.room.specs.Writing.{Left, judgedRoom, wrote}
 use Rattle.body.specs.declared.addresses.Address.{Address}
 use Rattle.frame.specs.declared.writing.Needed.{Needed}
@@ -30,7 +30,7 @@ judgedFields address code data′ after = judgedAddress address (judgedLength (b
 
 -- the number of the room rule; nothing is written
 unfoldable pub neededFor : Address → ℕ → List ℕ → Needed
-neededFor address code data′ = under needed-as.Bytes needed-as.Refused (judgedFields address code data′ Good) (needed (bodyOf address code data′))
+neededFor address code data′ = byVerdict needed-as.Bytes needed-as.Refused (judgedFields address code data′ Good) (needed (bodyOf address code data′))
 
 -- 5, 2, 9
 unfoldable pub judgedWrite : Address → ℕ → List ℕ → List ℕ → Verdict

@@ -5,7 +5,7 @@ use mathlib.Core.List.{List}
 use Rattle.refusal.specs.declared.Refusal.the-variants.{CodeUnknown, LengthWrong, FieldOutside}
 use Rattle.refusal.specs.declared.Verdict.{Verdict}
 use Rattle.refusal.specs.declared.Verdict.the-variants.{Good, Refused}
-use Rattle.refusal.specs.Numbers.{refuseIf, under}
+use Rattle.refusal.specs.Numbers.{refuseIf, byVerdict}
 use Rattle.body.specs.declared.addresses.Address.{Address}
 use Rattle.codes.specs.declared.table.Role.{Role}
 use Rattle.codes.specs.declared.table.Row.{Row}
@@ -36,7 +36,7 @@ judgedMessage role code data′ = judgedThen (judgedCode role code) (judgedData 
 
 -- what is said under a verdict
 abbrev pub telling : Verdict → What → Told
-telling verdict what = under told-as.What told-as.Refused verdict what
+telling verdict what = byVerdict told-as.What told-as.Refused verdict what
 
 -- what code and data say, or the refusal they earn
 unfoldable pub told : Role → Address → ℕ → List ℕ → Told

@@ -1,4 +1,4 @@
--- 01, "Messages": C2 and C3 say a weight, and no other message does.
+-- 01, "Messages": the replies C2 and C3 say a weight, and no other message does.
 use Rattle.meaning.specs.declared.meaning.What.{What}
 use Rattle.meaning.specs.declared.meaning.What.the-variants as says
 use Rattle.meaning.specs.declared.meaning.WeightOrNot.{WeightOrNot}

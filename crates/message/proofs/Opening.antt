@@ -10,7 +10,7 @@ use lib.ListN.{length, take, drop}
 use lib.Seq.{slice, length-slice, take-nil, drop-nil}
 use Rattle.refusal.specs.declared.Refusal.{Refusal}
 use Rattle.refusal.specs.declared.Verdict.the-variants.{Good}
-use Rattle.refusal.proofs.Verdicts.{Tells, under-good, under-refused}
+use Rattle.refusal.proofs.Verdicts.{Tells, verdict-good, verdict-refused}
 use Rattle.body.specs.declared.bodies.Parts.{Parts}
 use Rattle.body.specs.declared.bodies.Opened.the-variants as opened-as
 use Rattle.body.specs.Addresses.{addressIn, addressLength}
@@ -51,16 +51,16 @@ part (suc from) (suc to) (byte ∷ l) = rw suc-sub-suc (part from to l)
 
 pub unopened : (right : Bool) (role : Role) (body : List ℕ) (why : Refusal) → openedIf right body ≡ opened-as.Refused why → received-as.Refused why ≡ readIf right role body
 unfolding openedIf readIf
-unopened right role body why e = rw (under-refused opened-tells (judgedLentIf right body) _ why e)
+unopened right role body why e = rw (verdict-refused opened-tells (judgedLentIf right body) _ why e)
 
 module _ (right : Bool) (body : List ℕ) (parts : Parts) (opened : openedIf right body ≡ opened-as.Parts parts) where
   was-good : judgedLentIf right body ≡ Good
   unfolding openedIf
-  was-good = under-good opened-tells (judgedLentIf right body) _ parts opened .0
+  was-good = verdict-good opened-tells (judgedLentIf right body) _ parts opened .0
 
   parts-are : parts ≡ partsOf body
   unfolding openedIf
-  parts-are = under-good opened-tells (judgedLentIf right body) _ parts opened .1
+  parts-are = verdict-good opened-tells (judgedLentIf right body) _ parts opened .1
 
   long : short body ≡ false
   long = told-not-short right body was-good
@@ -89,7 +89,7 @@ module _ (right : Bool) (body : List ℕ) (parts : Parts) (opened : openedIf rig
         → received-as.Refused why ≡ readIf right role body
     unfolding told readIf
     untold why e =
-        let verdict = under-refused told-tells (judgedMessage role (codeIn body) (dataIn body)) _ why (sym told-body ∙ e) in
+        let verdict = verdict-refused told-tells (judgedMessage role (codeIn body) (dataIn body)) _ why (sym told-body ∙ e) in
         rw (was-good, verdict)
 
     pub message-told : (what : What) → told role (parts .address) (parts .code) (take (parts .to - parts .from) (drop (parts .from) body)) ≡ told-as.What what
@@ -97,5 +97,5 @@ module _ (right : Bool) (body : List ℕ) (parts : Parts) (opened : openedIf rig
         ≡ readIf right role body
     unfolding told readIf messageOf partsOf
     message-told what e =
-        let answer = under-good told-tells (judgedMessage role (codeIn body) (dataIn body)) _ what (sym told-body ∙ e) in
+        let answer = verdict-good told-tells (judgedMessage role (codeIn body) (dataIn body)) _ what (sym told-body ∙ e) in
         rw (was-good, answer .0, answer .1, data-end body long, parts-are)

@@ -11,7 +11,7 @@ use Rattle.refusal.specs.declared.Refusal.the-variants.{BodyShort, BodyLong, Ch
 use Rattle.refusal.specs.declared.Verdict.{Verdict}
 use Rattle.refusal.specs.declared.Verdict.the-variants.{Good, Refused}
 use Rattle.refusal.specs.Numbers.{numberOf, lineStatus, refuseIf}
-use Rattle.refusal.proofs.Verdicts.{under-refused}
+use Rattle.refusal.proofs.Verdicts.{verdict-refused}
 use Rattle.check_byte.specs.Register.{received}
 use Rattle.body.specs.Addresses.{legal, addressIn}
 use Rattle.body.specs.Body.{longest, short, judged, judgedLent, codeIn, dataIn}
@@ -64,7 +64,7 @@ module _ (holds : Refusal → Type 0) where
 
       pub message-refuses : (role : Role) (body : List ℕ) (why : Refusal) → readMessage role body ≡ received-as.Refused why → holds why
       unfolding OfRefusal
-      message-refuses role body why e = subst OfRefusal (under-refused received-tells (judgedBody role body) _ why (sym (read-so role body) ∙ e)) (of-body role body)
+      message-refuses role body why e = subst OfRefusal (verdict-refused received-tells (judgedBody role body) _ why (sym (read-so role body) ∙ e)) (of-body role body)
 
 -- so each of them is a refusal that a line can meet
 pub message-met : (role : Role) (body : List ℕ) (why : Refusal) → readMessage role body ≡ received-as.Refused why → lineStatus (numberOf why) ≡ true

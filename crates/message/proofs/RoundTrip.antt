@@ -11,7 +11,7 @@ use lib.Seq.{slice}
 use lib.Pow.{areBytes}
 use Rattle.refusal.specs.declared.Verdict.{Verdict}
 use Rattle.refusal.specs.declared.Verdict.the-variants.{Good, Refused}
-use Rattle.refusal.proofs.Verdicts.{refused-not-good, test-passed, rest-passed, under-good}
+use Rattle.refusal.proofs.Verdicts.{refused-not-good, test-passed, rest-passed, verdict-good}
 use Rattle.body.specs.declared.addresses.Address.{Address}
 use Rattle.body.specs.Addresses.{legal, addressIn}
 use Rattle.body.specs.Body.{bodyOf, judged, judgedLent, codeIn, dataIn}
@@ -47,11 +47,11 @@ may-be-written role address code data′ room is-legal good fits enough = rw (is
 module _ (role : Role) (body : List ℕ) (message : Message) (received : readMessage role body ≡ received-as.Message message) where
   both-good : judgedBody role body ≡ Good
   unfolding readMessage readIf judgedBody
-  both-good = under-good received-tells (judgedBody role body) _ message received .0
+  both-good = verdict-good received-tells (judgedBody role body) _ message received .0
 
   pub message-is : message ≡ messageOf role (addressIn body) (codeIn body) (dataIn body)
   unfolding readMessage readIf judgedBody
-  message-is = under-good received-tells (judgedBody role body) _ message received .1
+  message-is = verdict-good received-tells (judgedBody role body) _ message received .1
 
   pub read-lent : judgedLent body ≡ Good
   unfolding judgedBody judgedLent

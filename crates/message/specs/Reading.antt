@@ -6,7 +6,7 @@ use mathlib.Core.List.{List}
 use lib.ListN.{length}
 use Rattle.refusal.specs.declared.Verdict.{Verdict}
 use Rattle.refusal.specs.declared.Verdict.the-variants.{Good, Refused}
-use Rattle.refusal.specs.Numbers.{under}
+use Rattle.refusal.specs.Numbers.{byVerdict}
 use Rattle.body.specs.declared.addresses.Address.{Address}
 use Rattle.body.specs.Addresses.{addressIn}
 use Rattle.body.specs.Body.{checkRight, judgedLentIf, codeIn, dataIn}
@@ -32,7 +32,7 @@ judgedBody role body = judgedBodyIf (checkRight body) role body
 
 -- what is read under a verdict
 abbrev pub receiving : Verdict → Message → Received
-receiving verdict message = under received-as.Message received-as.Refused verdict message
+receiving verdict message = byVerdict received-as.Message received-as.Refused verdict message
 
 -- what an answer says of its body
 abbrev pub verdictOf : Received → Verdict

@@ -16,10 +16,10 @@ use Rattle.quay_line.specs.Places.{placeOut, placeFrom, eventOut}
 abbrev pub wentOut : Went → QuayWent
 wentOut went = record { place = placeOut (went .place); event = eventOut (went .event); used = went .used; refusal = 0 }
 
-abbrev pub unheard : QuayPlace → QuayWent
-unheard place = record { place = place; event = eventOut Nothing; used = 0; refusal = numberOf FieldOutside }
+abbrev pub refusedPlace : QuayPlace → QuayWent
+refusedPlace place = record { place = place; event = eventOut Nothing; used = 0; refusal = numberOf FieldOutside }
 
 -- a promise: the whole answer, and every lent byte
 pub record Listened (place : QuayPlace) (block before : List ℕ) (answered : QuayWent) (left : List ℕ) : Type 0 where
-  pub answer : answered ≡ cond (ltb 3 (place .phase)) (unheard place) (wentOut (wentOf (fedLent (placeFrom place) block before)))
+  pub answer : answered ≡ cond (ltb 3 (place .phase)) (refusedPlace place) (wentOut (wentOf (fedLent (placeFrom place) block before)))
   pub body : left ≡ cond (ltb 3 (place .phase)) before (fedLent (placeFrom place) block before .reader .body)

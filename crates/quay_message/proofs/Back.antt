@@ -12,7 +12,7 @@ use Rattle.body.specs.Addresses.{legal, firstByte, serialOf}
 use Rattle.weight.specs.declared.Read.the-variants as read-as
 use Rattle.weight.specs.Bytes.{readOf}
 use Rattle.quay_message.specs.Addresses.{addressFrom}
-use Rattle.quay_message.specs.Messages.{noWeight}
+use Rattle.quay_message.specs.Messages.{withoutDigits}
 
 pub address-back : (address : Address) → legal address ≡ true → addressFrom (firstByte address) (serialOf address) ≡ address
 unfolding addressFrom legal
@@ -21,6 +21,6 @@ address-back (Short short) is-legal =
     let low = leb-true 1 short (and-eq-true-iff (leb 1 short) _ .0 is-legal .0) in
     rw (ne-eqb short 0 (λ (e : short ≡ 0). omega arith))
 
-pub no-weight : readOf noWeight ≡ read-as.Refused FieldOutside
+pub no-weight : readOf withoutDigits ≡ read-as.Refused FieldOutside
 unfolding readOf
 no-weight = refl

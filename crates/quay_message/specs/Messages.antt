@@ -18,8 +18,8 @@ use Rattle.quay_message.specs.declared.messages.QuayWhat.{QuayWhat}
 use Rattle.quay_message.specs.declared.messages.QuayMessage.{QuayMessage}
 
 -- no half of these bytes is a digit, so they read as no weight
-abbrev pub noWeight : FourBytes
-noWeight = record { w0 = 255; w1 = 255; w2 = 255; con = 255 }
+abbrev pub withoutDigits : FourBytes
+withoutDigits = record { w0 = 255; w1 = 255; w2 = 255; con = 255 }
 
 -- all ones: above every number that is said, and above 32 inputs
 abbrev pub noNumber : ℕ
@@ -29,10 +29,10 @@ abbrev pub noCount : ℕ
 noCount = 4_294_967_295
 
 abbrev pub plain : ℕ → ℕ → ℕ → QuayWhat
-plain kind number on = record { number = number; from = 0; to = 0; on = on; weight = noWeight; load = 0; says = kind }
+plain kind number on = record { number = number; from = 0; to = 0; on = on; weight = withoutDigits; load = 0; says = kind }
 
 abbrev pub placed : ℕ → ℕ → ℕ → ℕ → QuayWhat
-placed kind number from to = record { number = number; from = from; to = to; on = noCount; weight = noWeight; load = 0; says = kind }
+placed kind number from to = record { number = number; from = from; to = to; on = noCount; weight = withoutDigits; load = 0; says = kind }
 
 abbrev pub whatOut : What → QuayWhat
 whatOut says.Nothing = plain 0 noNumber noCount

@@ -12,7 +12,7 @@ use refusal::number;
 use weight::FourBytes;
 ghost use mathlib.Core.Path.{_≡_};
 ghost use Rattle.crossing.specs.Roles.{roleFrom};
-ghost use Rattle.quay_message.specs.Messages.{noWeight, plain, placed, whatOut, messageOut, noMessage, receivedOut, messageIn};
+ghost use Rattle.quay_message.specs.Messages.{withoutDigits, plain, placed, whatOut, messageOut, noMessage, receivedOut, messageIn};
 
 // What a message says. A number, a count or a weight that its kind does not have is all ones. No message can say that.
 #[repr(C)]
@@ -45,7 +45,7 @@ pub struct QuayMessage {
 
 // Four times FF is no weight: every use of it is refused by 8.
 fn no_weight() -> FourBytes
-    ensures { λ r. ⌜ r ≡ noWeight ⌝ }
+    ensures { λ r. ⌜ r ≡ withoutDigits ⌝ }
 {
     FourBytes {
         w0: 255,

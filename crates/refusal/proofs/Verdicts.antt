@@ -5,7 +5,7 @@ use mathlib.Core.Bool.{Bool, true, false, true≢false}
 use Rattle.refusal.specs.declared.Refusal.{Refusal}
 use Rattle.refusal.specs.declared.Verdict.{Verdict}
 use Rattle.refusal.specs.declared.Verdict.the-variants.{Good, Refused}
-use Rattle.refusal.specs.Numbers.{refuseIf, under}
+use Rattle.refusal.specs.Numbers.{refuseIf, byVerdict}
 
 isGood : Verdict → Bool
 isGood Good = true
@@ -32,10 +32,10 @@ pub record Tells {A B : Type 0} (good : A → B) (refused : Refusal → B) : Typ
 
 -- such an answer under a verdict tells the verdict, and the value
 module _ {A B : Type 0} {good : A → B} {refused : Refusal → B} (tells : Tells good refused) where
-  pub under-good : (verdict : Verdict) (value other : A) → under good refused verdict value ≡ good other → (verdict ≡ Good) × (other ≡ value)
-  under-good Good value other e = (refl, tells .value (sym e))
-  under-good (Refused why) value other e = refused-not-good (tells .apart (sym e))
+  pub verdict-good : (verdict : Verdict) (value other : A) → byVerdict good refused verdict value ≡ good other → (verdict ≡ Good) × (other ≡ value)
+  verdict-good Good value other e = (refl, tells .value (sym e))
+  verdict-good (Refused why) value other e = refused-not-good (tells .apart (sym e))
 
-  pub under-refused : (verdict : Verdict) (value : A) (why : Refusal) → under good refused verdict value ≡ refused why → verdict ≡ Refused why
-  under-refused Good value why e = refused-not-good (tells .apart e)
-  under-refused (Refused other) value why e = ap Refused (tells .refusal e)
+  pub verdict-refused : (verdict : Verdict) (value : A) (why : Refusal) → byVerdict good refused verdict value ≡ refused why → verdict ≡ Refused why
+  verdict-refused Good value why e = refused-not-good (tells .apart e)
+  verdict-refused (Refused other) value why e = ap Refused (tells .refusal e)

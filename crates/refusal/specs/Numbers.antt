@@ -51,6 +51,6 @@ refuseIf true why after = Refused why
 refuseIf false why after = after
 
 -- an answer under a verdict: of the value where nothing is refused, of the refusal elsewhere
-abbrev pub under : {A B : Type 0} → (A → B) → (Refusal → B) → Verdict → A → B
-under good refused Good value = good value
-under good refused (Refused why) value = refused why
+abbrev pub byVerdict : {A B : Type 0} → (A → B) → (Refusal → B) → Verdict → A → B
+byVerdict good refused Good value = good value
+byVerdict good refused (Refused why) value = refused why

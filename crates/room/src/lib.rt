@@ -51,8 +51,8 @@ pub fn lay(source: &[u8], room: &mut [u8], at: usize) -> usize
     at + count
 }
 
-// A number's bytes, low byte first, as many as are asked, into a room from a place on. It answers the place behind them;
-// where they would pass the room's end nothing is laid.
+// Lays a number's bytes, low byte first, into a room from a place on: as many as are asked, and the number's higher bytes are left out. It
+// answers the place behind them. Where they would pass the room's end nothing is laid.
 pub fn lay_low(number: u64, count: usize, room: &mut [u8], at: usize) -> usize
     ensures { λ r. ⌜ Laid at (lowBytes count number) (now (room .entry)) r (now (room .exit)) ⌝ }
 {

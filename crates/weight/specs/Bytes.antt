@@ -20,8 +20,8 @@ unfoldable pub inRange : Reading → Bool
 inRange reading = leb (reading .number) 999999 && leb (reading .point) 7
 
 -- W0 W1 W2 CON, as they follow each other in a body
-abbrev pub fourBytes : FourBytes → List ℕ
-fourBytes bytes = bytes .w0 ∷ bytes .w1 ∷ bytes .w2 ∷ bytes .con ∷ []
+abbrev pub inOrder : FourBytes → List ℕ
+inOrder bytes = bytes .w0 ∷ bytes .w1 ∷ bytes .w2 ∷ bytes .con ∷ []
 
 unfoldable pub fourIn : List ℕ → FourBytes
 fourIn data′ = record { w0 = getD data′ 0 0; w1 = getD data′ 1 0; w2 = getD data′ 2 0; con = getD data′ 3 0 }

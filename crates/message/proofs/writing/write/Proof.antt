@@ -2,7 +2,7 @@
 -- Why: what is judged before the frame writer is called stands before it in the paper's order, and it judges the rest.
 use mathlib.Core.Path.{_∙_, sym}
 use borrow.Author.Tests.{not-true, not-false}
-use Rattle.refusal.proofs.Verdicts.{under-good, under-refused}
+use Rattle.refusal.proofs.Verdicts.{verdict-good, verdict-refused}
 use Rattle.room.proofs.Leaving.{refused-leaves}
 use Rattle.frame.specs.Writing.{judgedFields, judgedWrite, writtenFrame}
 use Rattle.meaning.specs.Judging.{judgedMessage, told}
@@ -42,7 +42,7 @@ unfolding told writtenMessage judgedMessageWrite
 returns-2 c =
     let tell = c .before .before .before .before in
     let is-legal = sym (tell .before .before .legal .ensures) ∙ not-false _ (tell .before .if1 .left) in
-    rw (is-legal, under-refused told-tells (judgedMessage _ _ _) _ _ (sym (tell .tell .ensures) ∙ c .before .before .why .given .1)) (refused-leaves (c .refused-write2 .ensures))
+    rw (is-legal, verdict-refused told-tells (judgedMessage _ _ _) _ _ (sym (tell .tell .ensures) ∙ c .before .before .why .given .1)) (refused-leaves (c .refused-write2 .ensures))
 
 same-length : tie.Need-same-length
 same-length c = search needs
@@ -52,7 +52,7 @@ unfolding told writtenMessage judgedMessageWrite writtenFrame judgedWrite judged
 returns-3 c =
     let tell = c .before .before .before .before .before .before in
     let is-legal = sym (tell .before .before .legal .ensures) ∙ not-false _ (tell .before .if1 .left) in
-    rw (is-legal, under-good told-tells (judgedMessage _ _ _) _ _ (sym (tell .tell .ensures) ∙ c .before .before .before .before .enum-told .given .1) .0)
+    rw (is-legal, verdict-good told-tells (judgedMessage _ _ _) _ _ (sym (tell .tell .ensures) ∙ c .before .before .before .before .enum-told .given .1) .0)
     (rw is-legal at (c .before .before .write .ensures))
 
 pub write-spec : {M : Type 1} → statement M
