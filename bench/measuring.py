@@ -50,6 +50,10 @@ def loader() -> list[str]:
     return [str(path), "--library-path", str(folder)] if path.exists() else []
 
 
+# What the listing program says of an input without a frame: noise and delimiters are such inputs.
+NOTE = rb"(?:bytes came, and no frame was among them\n)?"
+
+
 class Meter:
     """Counts and times commands. A cost a byte is what an input costs beside what an empty one costs."""
 
@@ -64,7 +68,7 @@ class Meter:
         loaded = self.loader if command[0].startswith("target/") else []
         with source.open("rb") as wire:
             run = subprocess.run([*self.emulator, *loaded, *command], stdin=wire, capture_output=True, cwd=REPOSITORY, check=True)
-        told = re.fullmatch(rb"instructions (\d+)\n", run.stderr)
+        told = re.fullmatch(NOTE + rb"instructions (\d+)\n", run.stderr)
         if told is None:
             raise SystemExit(f"bench/run: {' '.join(command)} said: {run.stderr.decode(errors='replace')}")
         return int(told[1]), run.stdout
