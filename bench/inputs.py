@@ -45,11 +45,11 @@ MIXED_BODIES = [
     body_of(GROSS),
     body_of(bytes.fromhex("02C29999999B")),
     body_of(bytes.fromhex("03C4FF0081A5")),
-    body_of(bytes.fromhex("9FC510000080")),
+    body_of(bytes.fromhex("FDC510000080")),
     body_of(bytes.fromhex("05C61F024F4B")),
     body_of(bytes.fromhex("00651301BF20")),
     body_of(GROSS)[:-1] + b"\0",
-    body_of(bytes.fromhex("A0C351020001")),
+    body_of(bytes.fromhex("FEC351020001")),
     body_of(bytes.fromhex("017751020001")),
     body_of(bytes.fromhex("01CC51020001")),
     body_of(bytes.fromhex("01C30A020001")),
@@ -63,7 +63,7 @@ MIXED_RECORDS = [
     record_of(1_754_000_000, "010100000010608401"),
     record_of(1_754_000_060, "020065130110804200"),
     record_of(1_754_000_120, "030000000004000000"),
-    record_of(1_754_000_180, "01A000000010608401"),  # refusal 11: the address
+    record_of(1_754_000_180, "01FE00000010608401"),  # refusal 11: the address
     record_of(1_754_000_240, "0101000000106A8401"),  # refusal 11: a digit
 ]
 

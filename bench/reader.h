@@ -3,7 +3,7 @@
 #include <stdint.h>
 
 enum { SEEKING, DELIMITED, INSIDE, HELD };
-enum { LONGEST_BODY = 255, QUIET = -1 };
+enum { LONGEST_BODY = 255, HIGHEST_SHORT = 0xFD, QUIET = -1 };
 
 /* The body just heard stands at the front of `body` until the next byte. */
 struct reader {
@@ -29,7 +29,7 @@ static int feed_all(int reg, const unsigned char *bytes, size_t length) {
 static int judged(const unsigned char *body, unsigned kept) {
     if (kept < 3 || (body[0] == 0 && kept < 6)) return 1;
     if (feed_all(0, body, kept) != 0) return 4;
-    return body[0] <= 0x9F ? 0 : 5;
+    return body[0] <= HIGHEST_SHORT ? 0 : 5;
 }
 
 static int keep(struct reader *reader, int byte) {

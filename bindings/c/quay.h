@@ -49,7 +49,7 @@ enum {
     QUAY_BODY_LONG = 2,       /* a body of more than 255 bytes */
     QUAY_HELD_BROKEN = 3,     /* the byte after an FF inside a body was neither FE nor FF */
     QUAY_CHECK_WRONG = 4,     /* the check byte is wrong */
-    QUAY_ADDRESS_ILLEGAL = 5, /* an address that no frame may carry */
+    QUAY_ADDRESS_ILLEGAL = 5, /* a short address outside 01 to FD, or a serial too large */
     QUAY_CODE_UNKNOWN = 6,    /* a code that the table does not have in that role */
     QUAY_LENGTH_WRONG = 7,    /* data of a length that is wrong for the code */
     QUAY_FIELD_OUTSIDE = 8,   /* a field outside its values; also a number handed in that names no phase, role, kind, or refusal of a line */
@@ -193,14 +193,15 @@ typedef struct QuayStepped {
 /* Takes bytes of a block up to and including the first event, or to the block's end. Next hand in the rest of the block, from `used` on.
  * An empty block takes nothing and hands the place back as it stood. A place with more than 255 kept bytes is treated as fresh, wire count 0.
  * Refusals of the call: 8 where the place has a phase that does not exist. Then nothing is taken, and the place and all of `body` are as they stood.
- * Refusals of the line are not refusals of the call. They stand in `event`, as 1, 2, 3, 4 or 5 (at a body's end judged 1, 4, 5).
+ * Refusals of the line are not refusals of the call. They stand in `event`, as 1, 2, 3, 4 or 5 (at a body's end judged 1, 4, 5). A line heard from
+ * a fresh place never gives 5: no body that begins with FE or FF is heard. Only a place made by hand, with an open body, can earn it.
  * Lent: `body`, exactly 255 bytes. Lend the same bytes with each block, as they were left. At first they may hold anything. After a frame its body is
  * the first event.kept of them, until the next call. Bytes after those kept are as they stood. */
 QuayWent quay_listen(QuayPlace place, const uint8_t *block, size_t block_length, uint8_t body[QUAY_BODY_ROOM]);
 
 /* ---- frames and messages
  *
- * An address is a short one (1 to 9F) with serial 0, or short address 0 with a serial (0 to 16,777,215). Both at once make no address. */
+ * An address is a short one (01 to FD) with serial 0, or short address 0 with a serial (0 to 16,777,215). Both at once make no address. */
 
 /* Writes the frame of an address, any code and data, with delimiters, inserted FEs and check as they go on the wire.
  * Refusals: 5 (no address), 2 (the body would pass 255), 9 (room), in this order. */

@@ -49,7 +49,7 @@ class Says(IntEnum):
 
 @dataclass(frozen=True)
 class Address:
-    """A short address, one byte 01 to 9F, or a serial number of three bytes: one of the two.
+    """A short address, one byte 01 to FD, or a serial number of three bytes: one of the two.
 
     >>> str(Address(1)), str(Address(serial=70501))
     ('1', '0:70501')

@@ -8,7 +8,7 @@ MEANINGS: Dict[int, str] = {
     2: '256th body byte (reading); body would pass 255 (writing)',
     3: 'Held, then neither FE nor FF',
     4: 'check not 0',
-    5: 'address not 00 to 9F; writing also: short address 0, serial above 16,777,215',
+    5: 'short address outside 01 to FD, or serial above 16,777,215',
     6: 'code not in the table for that role',
     7: 'data length wrong for the code',
     8: 'a field outside its values',

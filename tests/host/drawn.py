@@ -37,7 +37,7 @@ def some_numbers(source: RandomBytes) -> tuple[int, int]:
     if source.below(8):
         return short, serial
     return source.choice(((source.byte(), 0), (source.byte(), source.below(2 ** 24)), (0, source.number() >> 32),
-                          (short, serial ^ 0x1000000), (0xA0, 0), (0, 0x1000000)))
+                          (short, serial ^ 0x1000000), (0xFE, 0), (0, 0x1000000)))
 
 
 def some_role(source: RandomBytes) -> int:
@@ -112,7 +112,7 @@ def write_message(source: RandomBytes) -> Case:
 def some_body(source: RandomBytes) -> tuple[int, bytes]:
     """A role and a body for it, sometimes damaged."""
     role, code, data = some_row(source)
-    address = some_address(source) if source.below(24) else ('short', source.between(0xA0, 0xFF))
+    address = some_address(source) if source.below(24) else ('short', source.between(frame.HIGHEST_SHORT + 1, 0xFF))
     body = frame.body_of(address, code, data)
     if source.below(6) == 0:
         body = source.choice(DAMAGES)[1](source, body)

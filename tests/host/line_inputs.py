@@ -125,7 +125,8 @@ def strange_bodies() -> Iterator[tuple[Event, bytes]]:
         for body in (body_of_length(source, length), body_with_check_ff(source, length), source.bytes(length)):
             for kept in (length, 255, 256, 300):
                 yield (1, 0, 600, kept), body
-    for body in (body_of(('short', 0xA0), 0xC3, b'\x51\x02\x00\x01'), body_of(('short', 0xFF), 0xC3, b'')):
+    for first in (0x9F, 0xA0, 0xA4, 0xF0, 0xFD, 0xFE, 0xFF):
+        body = body_of(('short', first), 0xC3, b'\x51\x02\x00\x01')
         yield (1, 0, 12, len(body)), body
 
 

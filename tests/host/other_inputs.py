@@ -19,7 +19,7 @@ from weight import write_reading
 Case = tuple
 MARKS = cases_frame.marked_room(1200)
 STRANGE_ROLES = (2, 3, 128, 255)
-BOTH_NUMBERS = ((1, 1), (1, 255), (0x9F, 16_777_215), (1, 16_777_216), (0xA0, 1), (255, 2 ** 32 - 1))
+BOTH_NUMBERS = ((1, 1), (1, 255), (0xFD, 16_777_215), (1, 16_777_216), (0xFE, 1), (255, 2 ** 32 - 1))
 
 
 def both_or(address: crossing.Address) -> tuple[int, int]:
@@ -79,7 +79,7 @@ def messages_written() -> Iterator[Case]:
             role, address, code, data, room = inputs
             yield (name, message.ROLES.index(role), *both_or(address), code[0], data, room)
     for role in STRANGE_ROLES:
-        for numbers in ((1, 0), (1, 1), (0xA0, 0)):
+        for numbers in ((1, 0), (0xFD, 0), (1, 1), (0xFE, 0)):
             for code, data in ((0xC3, b'\x51\x02\x00\x01'), (0xC3, b''), (0x11, b''), (0xC3, b'\xff\x00\x00\x00')):
                 yield ('write_message', role, *numbers, code, data, MARKS[:16])
                 yield ('write_message', role, *numbers, code, data, b'')

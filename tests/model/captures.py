@@ -4,14 +4,16 @@
 some hundreds of small ones, each with a name that says what is in it.
 """
 
+from addresses import BRIDGES, HIGH, HIGHEST_OF_01
 from check_byte import check_of
-from frame import body_of, frame_of, stuffed
-from good_messages import ROWS, good_data, some_address
+from frame import DELIMITER, HIGHEST_SHORT, INSERTED, body_of, frame_of, stuffed
+from good_messages import ROWS, good_data, some_address, weight_data
 from random_bytes import RandomBytes
 
 REQUESTS = tuple(code for role, code in ROWS if role == 'request')
 REPLIES = tuple(code for role, code in ROWS if role == 'reply')
 WEIGHTS = (0xC2, 0xC3)
+E3_WEIGHT = b'\x51\x02\x00\x01'
 
 PAPER = (
     ('request gross', 'ff01c3e3ffff'), ('request net', 'ff01c28affff'),
@@ -69,9 +71,37 @@ def full_body(source):
     return body_of(some_address(source), source.choice((0xFF, 0xFE, 0xC3)), data)
 
 
+def weight_from(first):
+    """The weight of E3 behind any first byte, the check right: also behind FE and
+    FF, which are no address. Behind 00 its first bytes are a serial."""
+    return body_of(('short', first), 0xC3, E3_WEIGHT)
+
+
+def check_spoilt(body):
+    return body[:-1] + bytes([body[-1] ^ 1])
+
+
 def high_body(source):
-    """A right check behind an address that 01 refuses (refusal 5)."""
-    return body_of(('short', source.between(0xA0, 0xFD)), 0xC3, source.bytes(source.below(6)))
+    """A weight from an address that 01 refused and 02 request 1 lets in."""
+    first = source.choice((*BRIDGES, source.between(HIGHEST_OF_01 + 1, HIGHEST_SHORT)))
+    return body_of(('short', first), source.choice(WEIGHTS), weight_data(source))
+
+
+def ff_not_stuffed(body):
+    """A body's first FF without its FE: on the wire one more delimiter, so the
+    byte behind it starts a body, whose check is wrong."""
+    return b'\xff' + body[:1] + stuffed(body[1:]) + b'\xff\xff'
+
+
+def banned_wire(source):
+    """A right check behind a first byte FE or FF, which no writer writes.
+    "Delimited: FF stays, FE goes back to Seeking": FE gives no event, nor does
+    FF with its FE behind it."""
+    first = source.choice((INSERTED, DELIMITER))
+    body = body_of(('short', first), source.choice(WEIGHTS), weight_data(source))
+    if first == DELIMITER and source.below(2):
+        return ff_not_stuffed(body)
+    return delimited(source, body)
 
 
 def body_of_length(source, length, alphabet=None):
@@ -145,6 +175,8 @@ def piece(source):
         return cut(source, delimited(source, weight_body(source)))
     if kind < 96:
         return delimited(source, source.choice((any_body, high_body, wrong_field_body))(source))
+    if kind < 97:
+        return banned_wire(source)
     if kind < 98:
         return noise(source, source.between(1, 30))
     return delimited(source, source.choice((full_body, long_body))(source))
@@ -216,6 +248,17 @@ def full_captures(source):
         yield 'full of ff and fe %d' % count, b''.join(wires)
     for length in range(3, 9):
         yield 'check ff %d' % length, frame_of(body_with_check_ff(source, length))
+
+
+def address_captures(source):
+    """Each address of interest, its check right and wrong, with a good frame
+    behind it: FE and FF are never heard as the first byte of a body."""
+    behind = bytes.fromhex(PAPER[2][1])
+    for first in HIGH:
+        body = weight_from(first)
+        yield 'address %02x' % first, frame_of(body) + behind
+        yield 'address %02x, wrong check' % first, frame_of(check_spoilt(body)) + behind
+    yield 'address ff, not stuffed', ff_not_stuffed(weight_from(0xFF)) + behind
     for count in range(6):
         yield 'high address %d' % count, delimited(source, high_body(source))
 
@@ -231,7 +274,7 @@ def named_captures():
     """Some hundreds of (name, bytes), always the same."""
     source = RandomBytes(7)
     groups = (whole_and_late_captures, damaged_captures, long_captures, full_captures,
-              noise_captures)
+              address_captures, noise_captures)
     captures = list(paper_captures())
     for group in groups:
         captures.extend(group(source))

@@ -1,16 +1,16 @@
 """Cases of the check byte, of bodies, and of frames written into lent room."""
 
+from addresses import HIGH, short
 from check_byte import check_of, fed, register_of
-from frame import (address_is_legal, body_of, frame_of, judge_lent, open_body, room_needed, stuffed,
-                   write_frame)
+from frame import (HIGHEST_SHORT, address_is_legal, body_of, frame_of, judge_lent, open_body, room_needed,
+                   stuffed, write_frame)
 from captures import PAPER, body_of_length, body_with_check_ff
 from good_messages import some_address
 from random_bytes import RandomBytes
 
-ADDRESSES = tuple(('short', number) for number in (0, 1, 2, 0x7F, 0x9E, 0x9F, 0xA0, 0xFD, 0xFE, 0xFF)) \
-    + tuple(('serial', number) for number in (
-        0, 1, 254, 255, 256, 0xFFFF, 0xFF00FF, 0xFFFFFE, 0xFFFFFF, 0x1000000, 0x1000001, 2 ** 32 - 1))
-FIRST_BYTES = (0x00, 0x01, 0x02, 0x9F, 0xA0, 0xFD, 0xFE, 0xFF)
+ADDRESSES = short((0, 1, 2, 0x7F, HIGHEST_SHORT - 1) + HIGH) + tuple(('serial', number) for number in (
+    0, 1, 254, 255, 256, 0xFFFF, 0xFF00FF, 0xFFFFFE, 0xFFFFFF, 0x1000000, 0x1000001, 2 ** 32 - 1))
+FIRST_BYTES = (0x00, 0x01, 0x02) + HIGH
 LONG_LENGTHS = (255, 256, 257, 300, 600)  # the last that a body may have, and past it
 
 
@@ -49,7 +49,7 @@ def check_cases(source):
 
 
 def address_cases():
-    for address in ADDRESSES + tuple(('short', number) for number in range(256)):
+    for address in ADDRESSES + short(range(256)):
         yield ('address_is_legal', (address,), (address_is_legal(address),))
 
 

@@ -1,15 +1,18 @@
 """Cases of the listener: one byte in every state, blocks, whole wires."""
 
-from captures import DAMAGES, body_of_length, body_with_check_ff, high_body, named_captures
-from frame import body_of, frame_of, stuffed
+from addresses import HIGH
+from captures import (DAMAGES, body_of_length, body_with_check_ff, check_spoilt, named_captures,
+                      weight_from)
+from frame import HIGHEST_SHORT, body_of, frame_of, stuffed
 from good_messages import some_address
-from line import FRESH, feed, feed_block, hear, kept_bytes, state_of
+from line import FRESH, Event, feed, feed_block, hear, kept_bytes, state_of
 from random_bytes import RandomBytes
+from refusals import ACCEPTED
 
 PHASES = ('seeking', 'delimited', 'inside', 'held')
 COUNTS = (0, 1, 2, 3, 5, 6, 7, 253, 254, 255)
 OVER_COUNTS = (256, 257, 511, 65_535, 65_536, 2 ** 32, 2 ** 64 - 1)
-BYTES = (0x00, 0x01, 0x02, 0x9F, 0xA0, 0xFD, 0xFE, 0xFF)
+BYTES = (0x00, 0x01, 0x02) + HIGH
 WIRES = (0, 1, 2, 255, 256, 2 ** 32 - 1, 2 ** 53, 2 ** 63 - 1, 2 ** 63, 2 ** 64 - 2, 2 ** 64 - 1)
 
 
@@ -28,10 +31,15 @@ def block_case(state, block):
     return ('feed_block', (state, block), (seen(after), taken, event))
 
 
+def event_with(body):
+    """A frame's event to be handed in, also with a body that no wire gives."""
+    return Event(ACCEPTED, len(frame_of(body)), len(body), body)
+
+
 def kept_of(source, count):
     """Kept bytes with a right check where the count allows one."""
     if count < 3:
-        return source.choice((b'\x01\xc3', b'\x00\x00', b'\xff\xfe', b'\x9f\x00'))[:count]
+        return source.choice((b'\x01\xc3', b'\x00\x00', b'\xff\xfe', bytes([HIGHEST_SHORT, 0])))[:count]
     return source.choice((body_of_length(source, count), source.bytes(count),
                           body_with_check_ff(source, count), body_of_length(source, count, b'\xff\xfe')))
 
@@ -61,7 +69,8 @@ def ending_cases(source):
     with nothing kept and with marks past the kept bytes."""
     bodies = [b'', b'\x01', b'\x01\xc3', b'\x00\x00\x00\x00\x00', b'\x00\x00\x00\x00\x00\x00',
               b'\x01\xc3\xe3', b'\x01\xc3\xe2', b'\x00\x00\x00\x00\xa1']
-    bodies += [body_of(('short', first), 0xC3, b'\x05') for first in (0x9F, 0xA0, 0xFD, 0xFE, 0xFF)]
+    bodies += [weight_from(first) for first in HIGH]
+    bodies += [check_spoilt(weight_from(first)) for first in HIGH]
     bodies += [body_of(some_address(source), source.byte(), source.bytes(source.below(6)))
                for _ in range(30)]
     bodies += [body_of_length(source, 255), source.bytes(255)]
@@ -101,13 +110,26 @@ def block_cases(source):
         yield block_case(middle, wire[taken:])
         yield block_case(state_of(source.choice(PHASES), 2 ** 64 - source.below(9) - 1, 2, b'\x01\xc3'),
                          wire)
-    for _ in range(4):
-        yield block_case(FRESH, frame_of(high_body(source)))
     for length in range(253, 258):
         for alphabet in (b'\x00', b'\xff', None):
             yield block_case(FRESH, frame_of(body_of_length(source, length, alphabet)))
         yield block_case(state_of('inside', 7, 1, b'\x01'),
                          stuffed(body_with_check_ff(source, length)[1:]) + b'\xff\xff')
+
+
+def address_cases():
+    """Each address of interest behind a right check. On a wire heard from fresh
+    FE and FF start no body. A body handed in with nothing kept keeps them, and
+    earns 5 (open point 2.8)."""
+    for first in HIGH:
+        body = weight_from(first)
+        rest = stuffed(body[1:]) + b'\xff\xff'
+        yield block_case(FRESH, frame_of(body))
+        yield block_case(state_of('inside', 5, 0, b''), stuffed(body[:1]) + rest)
+        yield block_case(state_of('inside', 5, 1, body[:1]), rest)
+        yield block_case(state_of('held', 5, len(body), body), b'\xff')
+    # An FF held with nothing kept becomes the first byte when its FE is heard.
+    yield block_case(state_of('held', 5, 0, b''), stuffed(weight_from(0xFF))[1:] + b'\xff\xff')
 
 
 def cases():
@@ -117,6 +139,7 @@ def cases():
     yield from ending_cases(source)
     yield from random_cases(source)
     yield from block_cases(source)
+    yield from address_cases()
 
 
 def wires():

@@ -1,9 +1,11 @@
 """Cases of the listing: lines of events, the total line, small captures."""
 
-from captures import (PAPER, any_body, named_captures, reply_body, request_body, weight_body,
+from addresses import HIGH
+from captures import (E3_WEIGHT, PAPER, any_body, named_captures, reply_body, request_body, weight_body,
                       wrong_field_body)
 from cases_frame import written
-from frame import body_of, frame_of
+from cases_line import event_with
+from frame import HIGHEST_SHORT, body_of
 from good_messages import ROWS, good_data
 from line import Event, hear
 from listing import event_line, listing_of, total_line, write_line, write_total
@@ -14,9 +16,12 @@ COUNTS = (1, 2, 9, 10, 99, 100, 65_535, 10 ** 9, 2 ** 64 - 1)
 UNMET = tuple(number for number in ALL if number not in LINE_REFUSALS)  # by no line
 
 
-def heard(body):
-    """The event of one body on a line heard from fresh."""
-    return next(hear(frame_of(body)))
+def address_events():
+    """A weight and another message from each address of interest, handed in:
+    FE and FF, which no wire heard from fresh gives, list as refusal 5."""
+    for first in HIGH:
+        for code, data in ((0xC3, E3_WEIGHT), (0xC2, b'\x05\x00\x00\x91'), (0xCD, b'')):
+            yield event_with(body_of(('short', first), code, data))
 
 
 def some_events(source):
@@ -25,14 +30,15 @@ def some_events(source):
     for number in range(1, 6):
         yield Event(number, 12, 3, b'')
     for role, code in ROWS:
-        for address in (('short', 1), ('short', 0x9F), ('serial', 0), ('serial', 16_777_215)):
-            yield heard(body_of(address, code, good_data(source, role, code, 12)))
+        for address in (('short', 1), ('short', HIGHEST_SHORT), ('serial', 0), ('serial', 16_777_215)):
+            yield event_with(body_of(address, code, good_data(source, role, code, 12)))
     for status in (0x00, 0x07, 0x08, 0x10, 0x18, 0x20, 0x40, 0x60, 0x80, 0x98, 0xFF):
         for digits in (b'\x00\x00\x00', b'\x99\x99\x99', b'\x01\x00\x00', b'\x00\x00\x10'):
-            yield heard(body_of(('short', 10), 0xC3, digits + bytes([status])))
+            yield event_with(body_of(('short', 10), 0xC3, digits + bytes([status])))
     for maker in (weight_body, reply_body, request_body, any_body, wrong_field_body):
         for _ in range(15):
-            yield heard(maker(source))
+            yield event_with(maker(source))
+    yield from address_events()
 
 
 def line_cases(source):

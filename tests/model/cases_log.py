@@ -1,8 +1,11 @@
 """Cases of log records: written, read, made from what was heard, stepped, and the weights they note."""
 
-from captures import any_body, high_body, reply_body, request_body, weight_body, wrong_field_body
+from addresses import BRIDGES, HIGH
+from captures import (E3_WEIGHT, WEIGHTS, any_body, high_body, reply_body, request_body, weight_body,
+                      wrong_field_body)
 from cases_frame import marked_room
-from frame import frame_of
+from cases_line import event_with
+from frame import HIGHEST_SHORT, body_of, frame_of
 from good_messages import weight_data
 from line import Event, hear
 from log import NO_WEIGHT, Record, read_record, record_heard, step, weight_noted, write_record
@@ -26,7 +29,7 @@ def field_changes():
             yield base._replace(time=time)
         for kind in (0, 1, 2, 3, 4, 5, 17, 128, 255):
             yield base._replace(kind=kind)
-        for address in (0, 1, 0x9E, 0x9F, 0xA0, 0xFD, 0xFE, 0xFF):
+        for address in (0, 1, HIGHEST_SHORT - 1) + HIGH:
             yield base._replace(address=address)
         for serial in (0, 1, 255, 256, 0xFFFFFE, 0xFFFFFF, 0x010203):
             yield base._replace(serial=serial)
@@ -49,7 +52,7 @@ def some_record(source):
     kind = source.between(1, 3)
     if kind == 3:
         return Record(source.number(), 3, 0, 0, source.between(1, 8), NO_WEIGHT)
-    address = source.choice((0, source.between(1, 0x9F)))
+    address = source.choice((0, *BRIDGES, source.between(1, HIGHEST_SHORT)))
     serial = 0 if address else source.below(2 ** 24)
     data = weight_data(source)
     return Record(source.number(), kind, address, serial, data[3], data[:3])
@@ -117,6 +120,16 @@ def heard_cases(source):
                     yield heard_case(source.choice(TIMES), role, event)
 
 
+def address_cases():
+    """A weight from each address of interest, its event handed in. FE and FF,
+    which no wire heard from fresh gives, are noted as refusal 5."""
+    for first in HIGH:
+        for code in WEIGHTS:
+            event = event_with(body_of(('short', first), code, E3_WEIGHT))
+            for role in ROLES:
+                yield heard_case(86_400 + first, role, event)
+
+
 def handed_in_cases(source):
     """Each of the paper's refusals as an event: 1 to 8 are met on the line, of
     the frame layer and of the message layer; the others are refused by 8."""
@@ -139,6 +152,15 @@ def step_cases(source):
     logs.extend(source.bytes(count) for count in (1, 18, 19, 20, 21))
     for log in logs:
         for place in sorted({0, 20, 40, 60, 80, len(log) // 20 * 20, 2 ** 32}):
+            yield ('step', (log, place), step(log, place))
+
+
+def address_step_cases():
+    """A log of one record from each address of interest, stepped from each: a
+    bad record is 11 at its own place only."""
+    for base in (GOOD, GOOD._replace(kind=2)):
+        log = b''.join(record_bytes(base._replace(address=first)) for first in HIGH)
+        for place in range(0, len(log) + 1, 20):
             yield ('step', (log, place), step(log, place))
 
 
@@ -176,3 +198,5 @@ def cases():
     for group in (writing_cases, record_reading_cases, heard_cases, handed_in_cases, step_cases,
                   weight_cases):
         yield from group(source)
+    yield from address_cases()
+    yield from address_step_cases()

@@ -1,13 +1,14 @@
 """Cases of messages: every row in both roles, right and wrong."""
 
+from addresses import BRIDGES, HIGH, short
 from cases_frame import judged_bodies, marked_room, overlong_bodies, rooms_around
-from frame import body_of, room_needed
+from frame import HIGHEST_SHORT, body_of, room_needed
 from good_messages import LONGEST_TEXT, ROWS, good_data, some_address
 from message import ROLES, TABLE, read_message, write_message
 from random_bytes import RandomBytes
 
 NEAR_LENGTHS = range(0, 10)
-SOME_ADDRESSES = (('short', 1), ('short', 0x9F), ('serial', 0), ('serial', 0xFFFFFF))
+SOME_ADDRESSES = short((1, *BRIDGES, HIGHEST_SHORT)) + (('serial', 0), ('serial', 0xFFFFFF))
 
 
 def read_case(role, body):
@@ -82,12 +83,19 @@ def reading_cases(source):
         yield read_case(source.choice(ROLES), body_of(address, code, good_data(source, role, code)))
 
 
+def address_cases(source):
+    """Every row in its role, read from each address of interest."""
+    for role, code in ROWS:
+        for first in HIGH:
+            yield read_case(role, body_of(('short', first), code, good_data(source, role, code, 12)))
+
+
 def order_cases():
     """Two refusals met at once, in each neighbouring pair of 5, 6, 7, 8, 2, 9."""
     text = bytes([0x20, 255]) + bytes(255)
     wrong_text = bytes([0x99, 255]) + bytes(255)
     yield write_case('reply', ('short', 0), 0x11, b'', 20)
-    yield write_case('reply', ('short', 0xA0), 0xC3, b'', 20)
+    yield write_case('reply', ('short', 0xFE), 0xC3, b'', 20)
     yield write_case('request', ('serial', 0x1000000), 0xEE, b'\x01', 20)
     yield write_case('request', ('short', 1), 0xEE, b'', 0)
     yield write_case('request', ('short', 1), 0xEE, b'\x01\x02', 20)
@@ -114,7 +122,7 @@ def writing_cases(source):
         data = good_data(source, role, code, 12)
         for length in rooms_around(room_needed(('short', 1), code, data)[1]):
             yield write_case(role, ('short', 1), code, data, length)
-        for address in (('short', 0), ('short', 0xA0), ('short', 0xFF), ('serial', 0x1000000)):
+        for address in short((0,) + HIGH) + (('serial', 0x1000000),):
             yield write_case(role, address, code, data, 40)
     for role, address, code, data in longest_texts(source):
         need = room_needed(address, code, data)[1]
@@ -132,3 +140,4 @@ def cases():
     source = RandomBytes(19)
     yield from reading_cases(source)
     yield from writing_cases(source)
+    yield from address_cases(source)

@@ -15,12 +15,13 @@ DELIMITER = 0xFF
 INSERTED = 0xFE
 LONGEST_BODY = 255
 LOWEST_SHORT = 0x01
-HIGHEST_SHORT = 0x9F       # "one byte 01 to 9F (002)"
+HIGHEST_SHORT = 0xFD       # 02 request 1: "a short address is 01 to FD"; 01 said 01 to 9F, after 002
 HIGHEST_SERIAL = 16_777_215
 
 
 def address_is_legal(address):
-    """Refusal 5 of writing: "short address 0, serial above 16,777,215"."""
+    """Refusal 5 of writing. 02 request 1: "a short address outside 01 to FD or
+    a serial too large"; the serial's rule stays 01's, "above 16,777,215"."""
     kind, number = address
     if kind == 'serial':
         return number <= HIGHEST_SERIAL
@@ -28,13 +29,15 @@ def address_is_legal(address):
 
 
 def first_byte_is_legal(first):
-    """Refusal 5 of reading: "address not 00 to 9F"."""
+    """Refusal 5 of reading: neither 00 nor a short address. 02 request 1 moved
+    01's "address not 00 to 9F": FE and FF alone are left, and "on a wire heard
+    from fresh it can no longer occur"."""
     return first == 0 or LOWEST_SHORT <= first <= HIGHEST_SHORT
 
 
 def address_bytes(address):
-    """"one byte 01 to 9F (002), or 00 and then three bytes of serial number,
-    low byte first"."""
+    """"one byte" for a short address, "or 00 and then three bytes of serial
+    number, low byte first"."""
     kind, number = address
     if kind == 'short':
         return bytes([number])

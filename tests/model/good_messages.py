@@ -1,5 +1,7 @@
 """Right data for every row of the table, drawn from a random source."""
 
+from addresses import BRIDGES, HIGHEST_OF_01
+from frame import HIGHEST_SHORT
 import message
 
 LONGEST_TEXT = {'short': 250, 'serial': 247}  # open point 4.8
@@ -9,9 +11,10 @@ ROWS = tuple((role, code) for code in sorted(message.TABLE) for role in message.
 
 
 def some_address(source):
-    """Both kinds, the boundaries often."""
+    """Both kinds, the boundaries and the bridges often."""
     if source.below(4):
-        return ('short', source.choice((1, 2, 0x9E, 0x9F, source.between(1, 0x9F))))
+        return ('short', source.choice((1, HIGHEST_OF_01, *BRIDGES, HIGHEST_SHORT,
+                                        source.between(1, HIGHEST_SHORT))))
     return ('serial', source.choice((0, 1, 255, 0xFFFF, 0xFF00, 0xFFFFFF, source.below(2 ** 24))))
 
 

@@ -7,8 +7,8 @@
 
 The committed files are what `crates/vectors` reads and must write, and a mixed
 capture with its listing, which `crates/list_capture` reads and must write; and
-the small morning of samples/. As text there is a file per part of the model
-with one case a line.
+the small wires of samples/ with theirs. As text there is a file per part of the
+model with one case a line.
 """
 
 import collections
@@ -51,8 +51,9 @@ def committed_files():
     for program, stdin, stdout in run_files():
         yield 'crates/%s/stdin' % program, stdin
         yield 'crates/%s/stdout' % program, stdout
-    yield 'samples/morning.capture', sample.morning()
-    yield 'samples/morning.listing', listing.listing_of(sample.morning())
+    for name, wire in sample.SAMPLES:
+        yield 'samples/%s.capture' % name, wire()
+        yield 'samples/%s.listing' % name, listing.listing_of(wire())
 
 
 def content_of(path):

@@ -1,11 +1,13 @@
 """The open points of sections 2, 3 and 5: reader, frames, listing.
 
 Each expectation names its point; (!) marks the points a program can be caught
-on. Points of later requests are held to what is true before them.
+on. Points of requests not yet built are held to what is true before them. The
+addresses of 02 request 1 have their own points, in points_of_addresses.py.
 """
 
 from check_byte import check_of
-from frame import body_of, frame_of, judge_heard, judge_lent, open_body, room_needed, write_frame
+from frame import (HIGHEST_SHORT, body_of, frame_of, judge_heard, judge_lent, open_body, room_needed,
+                   write_frame)
 from line import FRESH, Event, feed, feed_block, hear, kept_bytes, state_of
 from listing import listing_of, write_line, write_total
 
@@ -84,21 +86,21 @@ def test_counts(expect):
     five = b'\x00\x01\x02\x03'
     expect('2.12', judge_heard(five + bytes([check_of(five)])), 1)
     expect('2.12', judge_heard(five + bytes([check_of(five) ^ 1])), 1)
-    expect('2.12', judge_heard(b'\xa0\xc3\x00'), 4)
-    expect('2.12', judge_heard(b'\xa0\xc3' + bytes([check_of(b'\xa0\xc3')])), 5)
+    expect('2.12', judge_heard(b'\xfe\xc3\x00'), 4)
+    expect('2.12', judge_heard(b'\xfe\xc3' + bytes([check_of(b'\xfe\xc3')])), 5)
     # up to and with the first event
     expect('block', feed_block(FRESH, b'\xff\x01\xff\xff\x02')[1:], (4, Event(1, 4, 1, b'')))
 
 
 def test_lent_bodies(expect):
     # a lent body is judged 2, 1, 4, 5: past 255 bytes it is 2 whatever its check and its address
-    for first, at_most in ((0x00, 0), (0x01, 0), (0x9F, 0), (0xA0, 5), (0xFF, 5)):
+    for first, at_most in ((0x00, 0), (0x01, 0), (HIGHEST_SHORT, 0), (0xFE, 5), (0xFF, 5)):
         for length in (255, 256, 257, 300, 600):
             unchecked = bytes([first]) + bytes(range(1, 254)) + bytes(length - 255)
             right, wrong = (unchecked + bytes([check_of(unchecked) ^ change]) for change in (0, 1))
             expect('lent body', (len(right), judge_lent(right), judge_lent(wrong)),
                    (length, at_most, 4) if length == 255 else (length, 2, 2))
-    expect('lent body', [judge_lent(b''), judge_lent(b'\xa0\xc3'), judge_lent(b'\xa0\xc3\x00')], [1, 1, 4])
+    expect('lent body', [judge_lent(b''), judge_lent(b'\xfe\xc3'), judge_lent(b'\xfe\xc3\x00')], [1, 1, 4])
 
 
 def test_frame_writing(expect):
@@ -118,7 +120,7 @@ def test_frame_writing(expect):
     expect('3.3', write_frame(('short', 0), 0xC3, b'', bytearray(20)), (5, 0))
     room = bytearray(9)
     expect('3.3', (write_frame(('serial', 0), 0xC3, b'', room)[0], room[1:5]), (0, bytes(4)))
-    expect('3.3', write_frame(('short', 0xA0), 0xC3, b'', bytearray(20)), (5, 0))
+    expect('3.3', write_frame(('short', 0xFE), 0xC3, b'', bytearray(20)), (5, 0))
     expect('3.3', write_frame(('serial', 16_777_216), 0xC3, b'', bytearray(20)), (5, 0))
     # 3.4 order 5, 2, 9
     expect('3.4', write_frame(('short', 0), 0xC3, bytes(300), bytearray()), (5, 0))

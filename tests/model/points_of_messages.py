@@ -1,6 +1,6 @@
 """The open points of sections 1 and 4, and those of messages in writing."""
 
-from frame import body_of
+from frame import HIGHEST_SHORT, body_of
 from message import ROLES, TABLE, inputs_on, judge_message, read_message, write_message
 from weight import write_reading
 
@@ -76,7 +76,7 @@ def test_lent_bodies(expect):
         expect('4.9', read_message(role, bytes(256)), (2,))
         expect('4.9', read_message(role, b'\x01' * 256), (2,))
         expect('4.9', read_message(role, b''), (1,))
-        for first in (0xA0, 0xFE, 0xFF):
+        for first in (0xFE, 0xFF):
             expect('4.9', read_message(role, body_of(('short', first), 0xC3, b'')), (5,))
         expect('4.9', read_message(role, b'\xff\xc3\x00'), (4,))
 
@@ -105,7 +105,7 @@ def test_fields(expect):
             ('reply', 0xCC, b'\x01\x02\x03\x04\x05', (0x0504030201,)),
             ('request', 0xD0, b'\x01\x02\x03\x04', (b'\x01\x02\x03\x04',)),
             ('request', 0xD2, b'\xe0\x03abc', (0xE0, b'abc')), ('reply', 0xEE, b'\x11', (0x11,))):
-        for address in (ONE, ('short', 0x9F), ('serial', 0x030201)):
+        for address in (ONE, ('short', HIGHEST_SHORT), ('serial', 0x030201)):
             expect('fields', read(role, code, data, address), (0, address, code, data, fields))
             expect('fields', write(role, code, data, address)[0], 0)
 

@@ -1,6 +1,6 @@
 """The open points of sections 6 and 7: weights and the log."""
 
-from frame import body_of, frame_of
+from frame import HIGHEST_SHORT, body_of, frame_of
 from line import Event, hear
 from log import NO_WEIGHT, Record, read_record, record_heard, step, weight_noted, write_record
 from message import ROLES, read_message
@@ -76,7 +76,7 @@ def test_log(expect):
     bad = good[:8] + b'\x04' + good[9:]
     expect('record', good.hex(), '0700000000000000' '01' '01' '000000' '01' '510200' '000000')
     for record in (Record(0x0807060504030201, 1, 0, 0x030201, 0x91, b'\x12\x34\x56'),
-                   Record(0x0807060504030201, 2, 0x9F, 0, 0x91, b'\x12\x34\x99')):
+                   Record(0x0807060504030201, 2, HIGHEST_SHORT, 0, 0x91, b'\x12\x34\x99')):
         expect('records come back', read_record(written(record)), (0, record))
         expect('records come back', step(written(record), 0), (0, record, 20))
     # 6.2 the record writer is given the record's fields, not a reading
@@ -157,7 +157,8 @@ def test_weights_noted(expect):
     wrong = [Record(7, 3, 0, 0, status, NO_WEIGHT) for status in [0] + list(range(9, 256))]
     wrong += [gross._replace(kind=kind) for kind in (0, 3, 4, 255)]
     wrong += [gross._replace(weight=digits) for digits in (b'\x5a\x02\x00', b'\x51\xa2\x00', b'\x51\x02\x0f')]
-    wrong += [gross._replace(address=0xA0), gross._replace(serial=1), net._replace(serial=16_777_216),
+    wrong += [gross._replace(address=address) for address in (0xFE, 0xFF)]
+    wrong += [gross._replace(serial=1), net._replace(serial=16_777_216),
               Record(7, 3, 0, 0, 4, b'\x00\x00\x01'), Record(7, 3, 1, 0, 4, NO_WEIGHT)]
     expect('11 of a weight noted', {weight_noted(record) for record in wrong}, {(11,)})
 

@@ -1,7 +1,7 @@
-"""A small morning of a quay, for samples/: what a clerk can list first.
+"""Two small wires of a quay, for samples/: what a clerk can list first.
 
-Good frames of several kinds and both address kinds, damage, silence, and a
-join in the middle of a frame. Every byte is said here; nothing is random.
+Good frames of several kinds, damage, silence, and a join in the middle of a
+frame. Every byte is said here; nothing is random.
 """
 
 from frame import body_of, frame_of
@@ -9,6 +9,8 @@ from frame import body_of, frame_of
 LANE_1 = ('short', 1)
 LANE_2 = ('short', 2)
 RAMP = ('serial', 70_501)  # a terminal that was never given a short address
+NORTH = ('short', 0xA4)    # the older bridges of 02 request 1, terminals of documents 000 and 001
+SOUTH = ('short', 0xF0)
 SILENCE = bytes([0xFF]) * 24
 
 
@@ -47,3 +49,35 @@ def morning():
         weighed(LANE_1, 0xC3, 9_980, 0x10),
         weighed(LANE_1, 0xC3, 9_980, 0x10)[:6],             # the capture stops inside a frame
     ))
+
+
+def older():
+    """A wire of two older bridges, from the first byte that was heard."""
+    serial = frame_of(body_of(SOUTH, 0xA1, b'\xff\x30\x00'))
+    coil = weighed(SOUTH, 0xC3, 8_150, 0x10)
+    return b''.join((
+        serial[3:],                                         # joined at an FF with its FE: no frame, and no refusal
+        weighed(NORTH, 0xC3, 31_960, 0x00),                 # still rolling
+        weighed(NORTH, 0xC3, 31_980, 0x10),
+        weighed(NORTH, 0xC2, 17_220, 0x10),                 # its freight
+        weighed(SOUTH, 0xC3, 81_495, 0x11),                 # one digit behind the point
+        weighed(SOUTH, 0xC2, 45_815, 0x11),                 # the check is FF: it has an FE behind it
+        SILENCE,
+        serial,                                             # a serial number with an FF in it
+        damaged(serial, 4, 0x40),                           # its FE is hit: neither FE nor FF behind an FF
+        damaged(coil, 1, 0x0E),                             # F0 is heard as FE: no body, and no refusal
+        damaged(coil, 1, 0x0F),                             # F0 is heard as FF: a body behind it, a wrong check
+        damaged(coil, 4, 0x08),                             # a digit is hit: a wrong check
+        coil,
+        weighed(NORTH, 0xC2, 0, 0x90),                      # minus zero, settled
+        frame_of(body_of(SOUTH, 0xC6, b'\x20\x05READY')),   # what its display shows
+        frame_of(body_of(NORTH, 0xC3, b'')),                # the poll itself, echoed
+        bytes([0xFF, 0xA4, 0xC3, 0xFF, 0xFF]),              # a body of two bytes
+        frame_of(body_of(NORTH, 0xEE, b'\x05')),            # the terminal says that it could not
+        weighed(SOUTH, 0xC3, 60_000, 0x18),                 # overloaded
+        weighed(NORTH, 0xC3, 14_760, 0x10),
+        weighed(SOUTH, 0xC3, 14_760, 0x10)[:6],             # the capture stops inside a frame
+    ))
+
+
+SAMPLES = (('morning', morning), ('older', older))

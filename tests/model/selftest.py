@@ -1,4 +1,4 @@
-"""The model tests itself: E1 to E8, the paper's listing, the open points.
+"""The model tests itself: E1 to E8, the paper's listing, the open points, 02 request 1.
 
     python3 tests/model/selftest.py
 
@@ -13,6 +13,8 @@ import line
 import listing
 import log
 import message
+import points_of_addresses
+import points_of_cases
 import points_of_lines
 import points_of_messages
 import points_of_weights
@@ -138,7 +140,8 @@ def test_random_source(expect):
 
 TESTS = (test_judged_examples, test_longest_body, test_paper_listing, test_misreadings, test_check,
          test_frames_handed_back, test_blocks, test_random_source) \
-    + points_of_lines.TESTS + points_of_messages.TESTS + points_of_weights.TESTS
+    + points_of_lines.TESTS + points_of_messages.TESTS + points_of_weights.TESTS \
+    + points_of_addresses.TESTS + points_of_cases.TESTS
 
 
 def main():

@@ -3,7 +3,7 @@
 /// Whom a frame is for, or from.
 #[derive(Clone, Copy, Debug, PartialEq, Eq, Hash)]
 pub enum Address {
-    /// One byte, 01 to 9F. Any other byte is no address, and writing it is refused.
+    /// One byte, 01 to FD. Any other byte is no address, and writing it is refused.
     Short(u8),
     /// A serial number, 0 to 16,777,215.
     Serial(u32),

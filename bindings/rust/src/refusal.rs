@@ -14,7 +14,7 @@ pub enum Refusal {
     HeldBroken = 3,
     /// 4: the check is not 0.
     CheckWrong = 4,
-    /// 5: the address is not 00 to 9F; in writing also a short address 0, or a serial above 16,777,215.
+    /// 5: a short address outside 01 to FD, or a serial above 16,777,215. A line heard from its start never gives it.
     AddressIllegal = 5,
     /// 6: the code is not in the table for that role.
     CodeUnknown = 6,

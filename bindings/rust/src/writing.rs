@@ -12,7 +12,7 @@ use crate::refusal::{judged, Refusal};
 /// let mut room = [0; 16];
 /// let length = write_frame(Address::Short(1), 0xC3, &[], &mut room)?;
 /// assert_eq!(room[..length], [0xFF, 0x01, 0xC3, 0xE3, 0xFF, 0xFF]);
-/// assert_eq!(write_frame(Address::Short(0xA0), 0xC3, &[], &mut room), Err(Refusal::AddressIllegal));
+/// assert_eq!(write_frame(Address::Short(0xFE), 0xC3, &[], &mut room), Err(Refusal::AddressIllegal));
 /// # Ok::<(), Refusal>(())
 /// ```
 pub fn write_frame(address: Address, code: u8, data: &[u8], room: &mut [u8]) -> Result<usize, Refusal> {

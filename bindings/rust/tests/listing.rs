@@ -23,12 +23,14 @@ fn listing_of(capture: &[u8], size: usize) -> Vec<u8> {
 }
 
 #[test]
-fn the_sample_lists_as_it_should_in_blocks_of_any_size() {
-    let capture = sample("morning.capture");
-    let wanted = String::from_utf8(sample("morning.listing")).expect("a listing is text");
-    for size in 1..=capture.len() {
-        let listing = String::from_utf8(listing_of(&capture, size)).expect("a listing is text");
-        assert_eq!(listing, wanted, "blocks of {size}");
+fn each_sample_lists_as_it_should_in_blocks_of_any_size() {
+    for name in ["morning", "older"] {
+        let capture = sample(&format!("{name}.capture"));
+        let wanted = String::from_utf8(sample(&format!("{name}.listing"))).expect("a listing is text");
+        for size in 1..=capture.len() {
+            let listing = String::from_utf8(listing_of(&capture, size)).expect("a listing is text");
+            assert_eq!(listing, wanted, "{name} in blocks of {size}");
+        }
     }
 }
 

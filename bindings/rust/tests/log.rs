@@ -36,6 +36,14 @@ fn a_log_is_read_back_as_it_was_written() {
     assert_eq!(records(&[]).next(), None);
 }
 
+/// The older bridges stand at A4 and F0; FD is the highest short address.
+#[test]
+fn weighings_from_high_addresses_are_read_back() {
+    let items = [0x9F, 0xA0, 0xA4, 0xF0, 0xFD].map(|byte| weighed(1, Load::Gross, Address::Short(byte), MINUS_ZERO));
+    let read: Result<Vec<Record>, Broken> = records(&log_of(&items)).collect();
+    assert_eq!(read.as_deref(), Ok(&items[..]));
+}
+
 #[test]
 fn a_log_cut_anywhere_is_left_over_or_whole() {
     let log = log_of(&three());
@@ -82,7 +90,7 @@ fn what_is_no_record_is_not_written() {
     let refused = |noted| Record { time: 1, noted };
     let broken = [
         weighed(1, Load::Gross, Address::Short(0), MINUS_ZERO),
-        weighed(1, Load::Gross, Address::Short(0xA0), MINUS_ZERO),
+        weighed(1, Load::Gross, Address::Short(0xFE), MINUS_ZERO),
         weighed(1, Load::Net, Address::Serial(0x100_0000), MINUS_ZERO),
         weighed(1, Load::Net, Address::Short(1), Weight([0xFF; 4])),
         refused(Noted::Refused(Refusal::RoomShort)),

@@ -23,7 +23,7 @@ fn each_refusal_has_the_papers_number() {
         write_frame(Address::Short(1), 0xD2, &[0; 253], &mut room).err(),
         met_on_the_line(&[0xFF, 0x01, 0xFF, 0x02]),
         met_on_the_line(&[0xFF, 0x01, 0xC3, 0xE2, 0xFF, 0xFF]),
-        write_frame(Address::Short(0xA0), 0xC3, &[], &mut room).err(),
+        write_frame(Address::Short(0xFE), 0xC3, &[], &mut room).err(),
         read_message(Role::Request, &reply(0xEE, &[1])).err(),
         read_message(Role::Reply, &reply(0xC3, &[])).err(),
         read_message(Role::Reply, &reply(0xC3, &[0x0A, 0, 0, 0])).err(),
@@ -79,7 +79,8 @@ fn what_requests_say() {
 
 #[test]
 fn a_message_written_is_read_back_with_its_address() {
-    for address in [Address::Short(0x9F), Address::Serial(0), Address::Serial(0xFF_FFFF)] {
+    let short = [0x01, 0x9F, 0xA0, 0xA4, 0xF0, 0xFD].map(Address::Short);
+    for address in short.into_iter().chain([Address::Serial(0), Address::Serial(0xFF_FFFF)]) {
         let mut room = [0; 64];
         let data = [0x51, 0x02, 0x00, 0x01];
         let length = write_message(Role::Reply, address, 0xC3, &data, &mut room).expect("room enough");
@@ -93,7 +94,7 @@ fn a_message_written_is_read_back_with_its_address() {
 #[test]
 fn an_address_that_nobody_has_is_refused() {
     let mut room = [0x55; 64];
-    for address in [Address::Short(0), Address::Short(0xA0), Address::Short(0xFF), Address::Serial(0x100_0000)] {
+    for address in [Address::Short(0), Address::Short(0xFE), Address::Short(0xFF), Address::Serial(0x100_0000)] {
         assert_eq!(write_frame(address, 0xC3, &[], &mut room), Err(Refusal::AddressIllegal), "{address:?}");
         assert_eq!(write_message(Role::Request, address, 0xC3, &[], &mut room), Err(Refusal::AddressIllegal));
     }

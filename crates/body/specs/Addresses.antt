@@ -1,5 +1,5 @@
--- 01, "The frame": "Address: one byte 01 to 9F (002), or 00 and then three bytes of serial number, low byte first."
--- Refusal 5: "address not 00 to 9F; writing also: short address 0, serial above 16,777,215".
+-- 01, "The frame": "Address: one byte .., or 00 and then three bytes of serial number, low byte first." 02, request 1: "a short address is 01 to
+-- FD". "Refusals: 5 now means a short address outside 01 to FD or a serial too large"; 01 on the serial: "above 16,777,215".
 use Prim.Native.Nat.{ℕ}
 use mathlib.Core.Bool.{Bool, cond, _&&_}
 use mathlib.Core.List.{List, [], _∷_}
@@ -9,9 +9,9 @@ use Rattle.low_first.specs.LowFirst.{lowFirst, lowBytes}
 use Rattle.body.specs.declared.addresses.Address.{Address}
 use Rattle.body.specs.declared.addresses.Address.the-variants.{Short, Serial}
 
--- "one byte 01 to 9F (002)"
+-- "a short address is 01 to FD"
 abbrev pub highestShort : ℕ
-highestShort = 0x9F
+highestShort = 0xFD
 
 -- the one rule of a legal address, for reading and for writing
 unfoldable pub legal : Address → Bool

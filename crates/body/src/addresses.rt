@@ -7,8 +7,8 @@ pub enum Address {
     Serial(u32),
 }
 
-// The highest short address, and the highest serial, which has three bytes.
-const HIGHEST_SHORT: u8 = 0x9F;
+// The highest short address, and the highest serial, which has three bytes. No line that started fresh begins a body with FE or FF.
+const HIGHEST_SHORT: u8 = 0xFD;
 
 const HIGHEST_SERIAL: u32 = 16_777_215;
 

@@ -34,7 +34,7 @@ counted listener byte few =
       broken = (omega arith, ((few, λ e. cc), (refl, refl)));
       good = λ _. (omega arith, ((refl, few), (refl, refl)));
       bad = λ why e.
-          (omega arith, ((few, end-refuses (λ (why : Refusal). why ≡ BodyLong → length kept ≡ longest) (λ e. cc) (λ e. cc) (λ e. cc) kept why e), (refl, refl)));
+          (omega arith, ((few, end-refuses (λ (why : Refusal). why ≡ BodyLong → length kept ≡ longest) kept (λ e. cc) (λ e. cc) (λ _ e. cc) why e), (refl, refl)));
     })
 
 -- any bytes

@@ -6,11 +6,14 @@ pub mod Counts
 pub mod Cuts
 pub mod Demand3
 pub mod Examples
+pub mod HighAddresses
 pub mod Kept
 pub mod Logs
+pub mod LogsFromBefore
 pub mod Loops
 pub mod Messages
 pub mod Noted
+pub mod OlderBridges
 pub mod OnTheWire
 pub mod Piece
 pub mod Reading

@@ -18,7 +18,7 @@ Met why = lineStatus (numberOf why) ≡ true
 
 pub message-refusals-noted : MessageRefusalsNoted
 message-refusals-noted time role wire kept body why e =
-    rw e (met-noted time why (message-refuses Met refl refl refl refl refl refl refl role body why e))
+    rw e (met-noted time why (message-refuses Met body refl refl (λ _. refl) refl refl refl refl role why e))
 
 pub message-refusals-listed : MessageRefusalsListed
 unfolding entryHeard
@@ -30,7 +30,7 @@ Told (frame wire kept body) = Unit {0}
 Told (refused why wire kept) = Met why
 
 pub line-told : (listener : Listener) (byte : ℕ) → Told (hear listener byte .event)
-line-told listener byte = every-told Told listener byte tt refl refl (λ good. tt) (end-refuses Met refl refl refl _)
+line-told listener byte = every-told Told listener byte tt refl refl (λ good. tt) (end-refuses Met _ refl refl (λ _. refl))
 
 pub line-refusals-noted : LineRefusalsNoted
 line-refusals-noted time role listener byte why wire kept e = rw e (met-noted time why (subst Told e (line-told listener byte)))

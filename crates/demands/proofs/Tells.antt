@@ -3,15 +3,16 @@
 use Prim.Native.Nat.{ℕ}
 use mathlib.Core.Path.{_≡_, refl, ap}
 use mathlib.Core.Bool.{Bool, true, false}
-use mathlib.Core.List.{List, [], _∷_, List·Memᴰ·not-nil}
+use mathlib.Core.List.{List, [], _∷_, List·Memᴰ·head, List·Memᴰ·not-nil}
 use native.Mathlib.Omega.{arith}
 use lib.ListN.{getD, replicate}
-use Rattle.refusal.specs.declared.Refusal.the-variants.{BodyLong, CheckWrong, CodeUnknown, LengthWrong, FieldOutside, RoomShort}
+use Rattle.refusal.specs.declared.Refusal.the-variants.{BodyLong, CheckWrong, AddressIllegal, CodeUnknown, LengthWrong, FieldOutside, RoomShort}
 use Rattle.refusal.specs.declared.Verdict.{Verdict}
 use Rattle.refusal.specs.declared.Verdict.the-variants.{Good, Refused}
 use Rattle.body.specs.declared.addresses.Address.the-variants.{Short, Serial}
-use Rattle.body.specs.Addresses.{legal, addressBytes}
-use Rattle.body.specs.Body.{unchecked, bodyOf}
+use Rattle.check_byte.specs.Register.{shiftIn, feedBits, feedByte, feedAll, received}
+use Rattle.body.specs.Addresses.{legal, addressBytes, addressIn}
+use Rattle.body.specs.Body.{unchecked, bodyOf, short, judged, judgedLent}
 use Rattle.line.specs.Listener.{Heard, nothing, frame, refused}
 use Rattle.weight.specs.declared.FourBytes.{FourBytes}
 use Rattle.weight.specs.declared.Reading.{Reading}
@@ -21,14 +22,18 @@ use Rattle.codes.specs.declared.table.Load.{Load}
 use Rattle.codes.specs.declared.table.Load.the-variants.{Net, Gross}
 use Rattle.records.specs.Records.{kindOf, addressOf, goodAddress, goodWeighing, good}
 use Rattle.records.specs.Stepping.{wholeLog, bytesOfLog}
-use Rattle.weighing_log.specs.Hearing.{weighing}
+use Rattle.weighing_log.specs.Hearing.{weighing, metOnLine, metRecord, recordOf}
 use Rattle.entries.specs.declared.entries.Entry.the-variants.{Weight, Message}
 use Rattle.entries.specs.declared.entries.Entry.the-variants as entry-as
+use Rattle.entries.specs.Entries.{entryHeard}
+use Rattle.meaning.specs.Judging.{judgedMessage}
+use Rattle.message.specs.Reading.{readIf, readMessage}
 use Rattle.demands.specs.Counts.{Within, Carries}
+use Rattle.demands.specs.HighAddresses.{NoFive, WrittenWithoutFive, fromFE}
 use Rattle.demands.specs.Kept.{WeightReply}
 use Rattle.demands.specs.Messages.{ExactlyWhere, FirstToFail}
 use Rattle.demands.specs.Unheard.{NotesItsWeight}
-use Rattle.demands.specs.Weighings.{ReplyHeard, Among, WeighingHeard, recordsHeard, ListedHeard}
+use Rattle.demands.specs.Weighings.{ReplyHeard, Among, WeighingHeard, recordsFrom, recordsHeard, ListedHeard}
 use Rattle.demands.specs.WrittenDown.{Sound}
 use Rattle.demands.proofs.Logs.{line-log-whole}
 use Rattle.demands.proofs.Unheard.{always-its-weight}
@@ -156,6 +161,23 @@ sound-message h = let clash : _≡_ {A = ℕ} 0 1 = cc in omega arith
 
 sound-refused : Sound (entry-as.Refused RoomShort) → ⊥
 sound-refused h = let clash : _≡_ {A = ℕ} 0 1 = cc in omega arith
+
+-- ---- refusal 5: among the events, in the log, in the listing, and earned by a frame's body
+
+five-told : NoFive (refused AddressIllegal 5 3 ∷ []) → ⊥
+five-told h = h AddressIllegal 5 3 (List·Memᴰ·head refl) refl
+
+five-noted : WrittenWithoutFive (refused AddressIllegal 5 3 ∷ []) → ⊥
+unfolding recordsFrom recordOf metRecord
+five-noted h = h .noted (λ (number : ℕ). number) Reply (metOnLine 1 5) (List·Memᴰ·head refl) refl refl
+
+five-listed : WrittenWithoutFive (refused AddressIllegal 5 3 ∷ []) → ⊥
+unfolding entryHeard
+five-listed h = h .listed AddressIllegal (List·Memᴰ·head refl) refl
+
+five-read : WrittenWithoutFive (frame 6 3 fromFE ∷ []) → ⊥
+unfolding entryHeard shiftIn feedBits feedByte feedAll received addressIn short judged judgedLent judgedMessage readIf readMessage legal
+five-read h = h .listed AddressIllegal (List·Memᴰ·head refl) refl
 
 -- ---- 6, 7, 8
 

@@ -40,6 +40,7 @@ use Rattle.weighing_log.specs.Hearing.{notedHeard}
 use Rattle.weighing_log.specs.Heard.{codeOf}
 use Rattle.weighing_log.proofs.Heard.{refusal-kind}
 use Rattle.weighing_log.proofs.Weighings.{heard as weighing-heard, address-is, said-code, spelled, packed-back}
+use Rattle.entries.specs.declared.entries.Entry.{Entry}
 use Rattle.entries.specs.declared.entries.Entry.the-variants.{Weight}
 use Rattle.entries.specs.Entries.{messageEntry, entryOf, entryHeard}
 use Rattle.entries.proofs.Handed.{handed-out}
@@ -60,7 +61,7 @@ Bytes listener = T (areBytes (keptOf (listener .state)))
 whole : (listener : Listener) (byte : ℕ) → Bytes listener → Whole (hear listener byte .event)
 whole listener byte all = every-told Whole listener byte tt tt tt (λ good. (all, good)) (λ why bad. tt)
 
-one-more : (kept : List ℕ) (more : ℕ) → T (areBytes kept) → T (ltb more 256) → T (areBytes (kept ++ (more ∷ [])))
+pub one-more : (kept : List ℕ) (more : ℕ) → T (areBytes kept) → T (ltb more 256) → T (areBytes (kept ++ (more ∷ [])))
 one-more [] more all small = yes-and (ltb more 256) _ small tt
 one-more (byte ∷ kept) more all small =
     yes-and (ltb byte 256) _ (and-yes (ltb byte 256) (areBytes kept) all .0) (one-more kept more (and-yes (ltb byte 256) (areBytes kept) all .1) small)
@@ -158,27 +159,24 @@ listed-as-heard reader all byte load address reading = listed load address readi
 
 -- ---- all events
 
-abbrev AllWhole : List Heard → Type 0
-AllWhole heard = (one : Heard) → List·Memᴰ one heard → Whole one
+abbrev Of : (Heard → Type 0) → List Heard → Type 0
+Of Known heard = (one : Heard) → List·Memᴰ one heard → Known one
 
 one-on : {Such : Heard → Type 0} {heard : Heard} {later : List Heard} → Among later Such → Among (heard ∷ later) Such
 one-on found = record { event = found .event; among = List·Memᴰ·tail (found .among); such = found .such }
 
-module _ (time : ℕ → ℕ) (role : Role) (item : Record) (weighing : item .kind ≡ 3 → ⊥) where
-  by-note : (heard : Heard) (later : List Heard) (number : ℕ) → Whole heard → (records : List Record)
-      → (List·Memᴰ item records → Among later (WeighingHeard role item)) → (made : Noted) → notedHeard (time number) role heard ≡ made
-      → List·Memᴰ item (noteThen made records) → Among (heard ∷ later) (WeighingHeard role item)
-  by-note heard later number is-whole records behind noted-as.Nothing e among = one-on (behind among)
-  by-note heard later number is-whole records behind (noted-as.Record other) e (List·Memᴰ·head same) =
-      record {
-        event = heard;
-        among = List·Memᴰ·head refl;
-        such = noted heard is-whole (time number) role item (e ∙ ap noted-as.Record (sym same)) weighing .1;
-      }
-  by-note heard later number is-whole records behind (noted-as.Record other) e (List·Memᴰ·tail among) = one-on (behind among)
-  by-note heard later number is-whole records behind (noted-as.Refused why) e among = one-on (behind among)
+-- a record of the log was made of one of the events: such an event as each is that it is made of
+module _ (Known Such : Heard → Type 0) (time : ℕ → ℕ) (role : Role) (item : Record)
+    (each : (heard : Heard) (number : ℕ) → Known heard → notedHeard (time number) role heard ≡ noted-as.Record item → Such heard) where
+  by-note : (heard : Heard) (later : List Heard) (number : ℕ) → Known heard → (records : List Record) → (List·Memᴰ item records → Among later Such) → (made : Noted)
+      → notedHeard (time number) role heard ≡ made → List·Memᴰ item (noteThen made records) → Among (heard ∷ later) Such
+  by-note heard later number known records behind noted-as.Nothing e among = one-on (behind among)
+  by-note heard later number known records behind (noted-as.Record other) e (List·Memᴰ·head same) =
+      record { event = heard; among = List·Memᴰ·head refl; such = each heard number known (e ∙ ap noted-as.Record (sym same)) }
+  by-note heard later number known records behind (noted-as.Record other) e (List·Memᴰ·tail among) = one-on (behind among)
+  by-note heard later number known records behind (noted-as.Refused why) e among = one-on (behind among)
 
-  in-log : (heard : List Heard) (number : ℕ) → AllWhole heard → List·Memᴰ item (recordsFrom time role number heard) → Among heard (WeighingHeard role item)
+  pub in-log : (heard : List Heard) (number : ℕ) → Of Known heard → List·Memᴰ item (recordsFrom time role number heard) → Among heard Such
   unfolding recordsFrom
   in-log [] number all among = absurd (List·Memᴰ·not-nil among)
   in-log (heard ∷ later) number all among =
@@ -187,19 +185,21 @@ module _ (time : ℕ → ℕ) (role : Role) (item : Record) (weighing : item .ki
 
 pub log-as-heard : LogAsHeard
 log-as-heard reader all bytes small time role item among weighing =
-    in-log time role item weighing (events (view reader) bytes) 1 (all-whole reader all bytes small) among
+    in-log Whole (WeighingHeard role item) time role item (λ heard number is-whole e. noted heard is-whole (time number) role item e weighing .1)
+    (events (view reader) bytes) 1 (all-whole reader all bytes small) among
 
-in-listing : (load : Load) (address : Address) (reading : Reading) (heard : List Heard) → AllWhole heard
-    → List·Memᴰ (Weight load address reading) (map entryHeard heard) → Among heard (ListedHeard load address reading)
-in-listing load address reading [] all among = absurd (List·Memᴰ·not-nil among)
-in-listing load address reading (heard ∷ later) all (List·Memᴰ·head same) =
-    record { event = heard; among = List·Memᴰ·head refl; such = listed load address reading heard (all heard (List·Memᴰ·head refl)) (sym same) }
-in-listing load address reading (heard ∷ later) all (List·Memᴰ·tail among) =
-    one-on (in-listing load address reading later (λ one behind. all one (List·Memᴰ·tail behind)) among)
+-- the same of an entry of the listing
+module _ (Known Such : Heard → Type 0) (entry : Entry) (each : (heard : Heard) → Known heard → entryHeard heard ≡ entry → Such heard) where
+  pub in-listing : (heard : List Heard) → Of Known heard → List·Memᴰ entry (map entryHeard heard) → Among heard Such
+  in-listing [] all among = absurd (List·Memᴰ·not-nil among)
+  in-listing (heard ∷ later) all (List·Memᴰ·head same) =
+      record { event = heard; among = List·Memᴰ·head refl; such = each heard (all heard (List·Memᴰ·head refl)) (sym same) }
+  in-listing (heard ∷ later) all (List·Memᴰ·tail among) = one-on (in-listing later (λ one behind. all one (List·Memᴰ·tail behind)) among)
 
 pub listing-as-heard : ListingAsHeard
 listing-as-heard reader all bytes small load address reading =
-    in-listing load address reading (events (view reader) bytes) (all-whole reader all bytes small)
+    in-listing Whole (ListedHeard load address reading) (Weight load address reading) (listed load address reading) (events (view reader) bytes)
+    (all-whole reader all bytes small)
 
 pub checked-once : CheckedOnce
 checked-once listener bytes = record { entries = handed-out listener bytes; lines = lists-the-same listener bytes }

@@ -70,7 +70,7 @@ module _ (body : List ℕ) (message : Message) (was : readMessage Reply body ≡
 
 body-sound : (body : List ℕ) (received : Received) → readMessage Reply body ≡ received → Sound (entryOf received)
 body-sound body (received-as.Message message) was = message-sound body message was
-body-sound body (received-as.Refused why) was = message-refuses Met refl refl refl refl refl refl refl Reply body why was
+body-sound body (received-as.Refused why) was = message-refuses Met body refl refl (λ _. refl) refl refl refl refl Reply why was
 
 met-noted : (time : ℕ) (met why : Refusal) → Met met → recordOf time (received-as.Refused met) ≡ noted-as.Refused why → ⊥
 met-noted time met why is-met e = let made = met-made time met is-met in let clash : _≡_ {A = ℕ} 0 1 = cc in omega arith

@@ -1,10 +1,13 @@
 pub mod Counts
 pub mod Examples
+pub mod HighAddresses
 pub mod Kept
 pub mod Logs
+pub mod LogsFromBefore
 pub mod Loops
 pub mod Messages
 pub mod Noted
+pub mod OlderBridges
 pub mod OnTheWire
 pub mod Reading
 pub mod Shown

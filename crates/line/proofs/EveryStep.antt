@@ -28,7 +28,7 @@ pub record EachKind (holds : Step → Type 0) (kept : List ℕ) (byte wire : ℕ
   pub bad : (why : Refusal) → judged kept ≡ Refused why → holds (step delimited wire (refused why wire (length kept)))
 
 module _ (holds : Step → Type 0) where
-  either : (test : Bool) (x y : Step) → (test ≡ true → holds x) → (test ≡ false → holds y) → holds (cond test x y)
+  pub either : (test : Bool) (x y : Step) → (test ≡ true → holds x) → (test ≡ false → holds y) → holds (cond test x y)
   either true x y p q = p refl
   either false x y p q = q refl
 

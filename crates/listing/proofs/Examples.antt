@@ -60,7 +60,7 @@ abbrev pub lines : List Listed
 lines =
     lists-as 18_446_744_073_709_551_615 (Weight Net (Serial 16_777_215) overloaded) (spelt "18446744073709551615 weight net 0:16777215 - 000000 7 0 1\n")
     ∷ lists-as 10 (Message (Serial 0) 0xA1) (spelt "10 message 0:0 A1\n")
-    ∷ lists-as 100 (Message (Short 159) 0x0F) (spelt "100 message 159 0F\n")
+    ∷ lists-as 100 (Message (Short 253) 0x0F) (spelt "100 message 253 0F\n")
     ∷ lists-as 9 (Refused BodyShort) (spelt "9 refused 1\n")
     ∷ lists-as 0 (Refused RecordBroken) (spelt "0 refused 11\n")
     ∷ lists-as 7 Nothing []

@@ -1,9 +1,11 @@
--- Shown: what holds of 1, 4 and 5 holds of every refusal at a body's end, and so with 2 for a lent body, and with 6, 7, 8 for a message.
+-- Shown: what holds of 1, 4 and 5 holds of every refusal at a body's end, and so with 2 for a lent body, and with 6, 7, 8 for a message. Of 5 it has to
+-- hold only where the address is not legal.
 -- Why: each test refuses with its own number, and the first that holds decides.
 use Prim.Native.Nat.{ℕ}
 use mathlib.Core.Path.{_≡_, _∙_, refl, sym, subst}
 use mathlib.Core.Bool.{Bool, true, false, not}
 use mathlib.Core.List.{List}
+use borrow.Author.Tests.{not-true}
 use lib.Dec.{ltb, eqb}
 use lib.ListN.{length}
 use Rattle.refusal.specs.declared.Refusal.{Refusal}
@@ -30,9 +32,9 @@ module _ (holds : Refusal → Type 0) where
   OfRefusal Good = Unit {0}
   OfRefusal (Refused why) = holds why
 
-  refusing : (test : Bool) (why : Refusal) (after : Verdict) → holds why → OfRefusal after → OfRefusal (refuseIf test why after)
+  refusing : (test : Bool) (why : Refusal) (after : Verdict) → (test ≡ true → holds why) → OfRefusal after → OfRefusal (refuseIf test why after)
   unfolding OfRefusal
-  refusing true why after first rest = first
+  refusing true why after first rest = first refl
   refusing false why after first rest = rest
 
   one-then : (first second : Verdict) → OfRefusal first → OfRefusal second → OfRefusal (judgedThen first second)
@@ -40,32 +42,36 @@ module _ (holds : Refusal → Type 0) where
   one-then Good second p q = q
   one-then (Refused why) second p q = p
 
-  module _ (one : holds BodyShort) (four : holds CheckWrong) (five : holds AddressIllegal) where
-    at-end : (body : List ℕ) → OfRefusal (judged body)
+  module _ (body : List ℕ) (one : holds BodyShort) (four : holds CheckWrong) (five : legal (addressIn body) ≡ false → holds AddressIllegal) where
+    at-end : OfRefusal (judged body)
     unfolding judged OfRefusal
-    at-end body = refusing (short body) _ _ one (refusing (not (eqb (received body) 0)) _ _ four (refusing (not (legal (addressIn body))) _ _ five tt))
+    at-end =
+        let legal-address = legal (addressIn body) in
+        refusing (short body) _ _ (λ _. one)
+        (refusing (not (eqb (received body) 0)) _ _ (λ _. four) (refusing (not legal-address) _ _ (λ illegal. five (not-true legal-address illegal)) tt))
 
-    pub end-refuses : (body : List ℕ) (why : Refusal) → judged body ≡ Refused why → holds why
+    pub end-refuses : (why : Refusal) → judged body ≡ Refused why → holds why
     unfolding OfRefusal
-    end-refuses body why e = subst OfRefusal e (at-end body)
+    end-refuses why e = subst OfRefusal e at-end
 
     module _ (two : holds BodyLong) (six : holds CodeUnknown) (seven : holds LengthWrong) (eight : holds FieldOutside) where
       of-message : (role : Role) (code : ℕ) (data′ : List ℕ) → OfRefusal (judgedMessage role code data′)
       unfolding judgedMessage judgedCode judgedData OfRefusal
       of-message role code data′ =
-          one-then (judgedCode role code) _ (refusing (not (inTable (rowOf role code))) _ _ six tt)
-          (refusing (not (lengthRight (lengthOf (rowOf role code)) data′)) _ _ seven (refusing (not (fieldsRight (rowOf role code) data′)) _ _ eight tt))
+          one-then (judgedCode role code) _ (refusing (not (inTable (rowOf role code))) _ _ (λ _. six) tt)
+          (refusing (not (lengthRight (lengthOf (rowOf role code)) data′)) _ _ (λ _. seven)
+          (refusing (not (fieldsRight (rowOf role code) data′)) _ _ (λ _. eight) tt))
 
-      of-body : (role : Role) (body : List ℕ) → OfRefusal (judgedBody role body)
+      of-body : (role : Role) → OfRefusal (judgedBody role body)
       unfolding judgedLent judged
-      of-body role body =
+      of-body role =
           rw (in-order role body)
-          (one-then (judgedLent body) _ (refusing (ltb longest (length body)) _ _ two (at-end body)) (of-message role (codeIn body) (dataIn body)))
+          (one-then (judgedLent body) _ (refusing (ltb longest (length body)) _ _ (λ _. two) at-end) (of-message role (codeIn body) (dataIn body)))
 
-      pub message-refuses : (role : Role) (body : List ℕ) (why : Refusal) → readMessage role body ≡ received-as.Refused why → holds why
+      pub message-refuses : (role : Role) (why : Refusal) → readMessage role body ≡ received-as.Refused why → holds why
       unfolding OfRefusal
-      message-refuses role body why e = subst OfRefusal (verdict-refused received-tells (judgedBody role body) _ why (sym (read-so role body) ∙ e)) (of-body role body)
+      message-refuses role why e = subst OfRefusal (verdict-refused received-tells (judgedBody role body) _ why (sym (read-so role body) ∙ e)) (of-body role)
 
 -- so each of them is a refusal that a line can meet
 pub message-met : (role : Role) (body : List ℕ) (why : Refusal) → readMessage role body ≡ received-as.Refused why → lineStatus (numberOf why) ≡ true
-message-met = message-refuses (λ (why : Refusal). lineStatus (numberOf why) ≡ true) refl refl refl refl refl refl refl
+message-met role body = message-refuses (λ (why : Refusal). lineStatus (numberOf why) ≡ true) body refl refl (λ _. refl) refl refl refl refl role

@@ -36,7 +36,8 @@ namedIn (why ∷ rows) number = cond (eqb number (numberOf why)) (named-as.Refus
 unfoldable pub namedOf : ℕ → Named
 namedOf number = namedIn all number
 
--- the refusals that a line can meet, by their numbers. "Log records": "Kind 3 is a refusal met on the line: status 1 to 8"
+-- the refusals that a line can meet, by their numbers. "Log records": "Kind 3 is a refusal met on the line: status 1 to 8". 5 stays among them: a
+-- state handed in can earn it, and logs from before hold it
 abbrev pub lineStatus : ℕ → Bool
 lineStatus number = leb 1 number && leb number 8
 

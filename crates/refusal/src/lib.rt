@@ -5,11 +5,11 @@ ghost use Rattle.refusal.specs.Numbers.{numberOf, namedOf, lineStatus};
 
 // One case for each number of the paper's list, named by its meaning.
 pub enum Refusal {
-    BodyShort, // 1: body ended with byVerdict 3 bytes, or first byte 00 and byVerdict 6
+    BodyShort, // 1: body ended with under 3 bytes, or first byte 00 and under 6
     BodyLong, // 2: 256th body byte; body would pass 255
     HeldBroken, // 3: Held, then neither FE nor FF
     CheckWrong, // 4: check not 0
-    AddressIllegal, // 5: address outside its range
+    AddressIllegal, // 5: short address outside its range, or serial too large
     CodeUnknown, // 6: code not in the table for that role
     LengthWrong, // 7: data length wrong for the code
     FieldOutside, // 8: a field outside its values

@@ -26,13 +26,14 @@ WEIGHT_KEYS = ('address', 'serial', 'value', 'kilograms', 'kilograms_exact', 'si
 
 class Records(RefusedCase):
     def test_what_is_written_reads_back(self) -> None:
-        for record in RECORDS:
+        high = [quay.Weighing(0, quay.Load.NET, quay.Address(short), HEAVY.weight) for short in (0x9F, 0xA0, 0xA4, 0xF0, 0xFD)]
+        for record in (*RECORDS, *high):
             self.assertEqual(quay.read_record(quay.write_record(record)), record)
         self.assertEqual(quay.write_record(HEAVY).hex(), 'e803000000000000' + '0101000000' + '01' + '510200' + '000000')
 
     def test_a_record_that_breaks_a_rule_is_not_written(self) -> None:
         gross, weight = quay.Load.GROSS, HEAVY.weight
-        wrong = [quay.Weighing(0, gross, quay.Address(short), weight) for short in (0, 0xA0, 257, -1)]
+        wrong = [quay.Weighing(0, gross, quay.Address(short), weight) for short in (0, 0xFE, 0xFF, 257, -1)]
         wrong += [quay.Weighing(0, gross, quay.Address(serial=serial), weight) for serial in (2**24, 2**32, -1)]
         wrong += [quay.Weighing(0, gross, quay.Address(1), NO_WEIGHT)]
         wrong += [quay.RefusalMet(0, number) for number in (0, 9, 255, 257, -255)]

@@ -91,7 +91,7 @@ def damaged_wire(seed: int) -> bytes:
     wire = bytearray()
     for _ in range(40):
         data = bytes(drawn.choice((0, 1, 0xFE, 0xFF)) for _ in range(drawn.randrange(0, 253)))
-        wire += drawn.randbytes(drawn.randrange(3)) + quay.write_frame(quay.Address(drawn.randrange(1, 0xA0)), 0xC3, data)
+        wire += drawn.randbytes(drawn.randrange(3)) + quay.write_frame(quay.Address(drawn.randrange(1, 0xFE)), 0xC3, data)
     for _ in range(20):
         wire[drawn.randrange(len(wire))] = drawn.choice((0, 1, 0xFE, 0xFF))
         del wire[drawn.randrange(len(wire))]
@@ -147,7 +147,7 @@ class FramesAndMessages(RefusedCase):
         self.assertEqual(quay.write_message(quay.Role.REPLY, one, 0xC2, bytes.fromhex('05000091')), E4)
 
     def test_an_address_that_is_none_is_refused_and_never_becomes_another(self) -> None:
-        wrong = [quay.Address(short) for short in (0, 0xA0, 0xFF, 256, 257, -255, 2**64 + 1)]
+        wrong = [quay.Address(short) for short in (0, 0xFE, 0xFF, 256, 257, -255, 2**64 + 1)]
         wrong += [quay.Address(serial=serial) for serial in (2**24, 2**32, 2**32 + 1, -1)]
         for address in wrong:
             self.refused(5, quay.write_frame, address, 0xC3)
@@ -157,7 +157,8 @@ class FramesAndMessages(RefusedCase):
                 quay.Address(**words)
 
     def test_what_is_written_reads_back(self) -> None:
-        for address in (quay.Address(1), quay.Address(0x9F), quay.Address(serial=0), quay.Address(serial=2**24 - 1)):
+        short = [quay.Address(byte) for byte in (1, 0x9F, 0xA0, 0xA4, 0xF0, 0xFD)]
+        for address in (*short, quay.Address(serial=0), quay.Address(serial=2**24 - 1)):
             frame, = heard([quay.write_message(quay.Role.REPLY, address, 0xC2, b'\x05\0\0\x91')])
             message = quay.read_message(frame.body)
             self.assertEqual((message.address, message.load, bytes(message.weight)), (address, quay.Load.NET, b'\x05\0\0\x91'))
