@@ -178,7 +178,7 @@ typedef struct QuayRecord {
     uint32_t serial;
     uint8_t kind;
     uint8_t address;
-    uint8_t status;     /* CON of a weight; for QUAY_RECORD_REFUSED the refusal's number */
+    uint8_t status;     /* CON of a weight; for QUAY_RECORD_REFUSED the refusal's number, 1 to 8 (5 in logs from before) */
     uint8_t w0, w1, w2; /* FF unless the kind is 1 or 2 */
     uint8_t refusal;
 } QuayRecord;
@@ -194,7 +194,7 @@ typedef struct QuayStepped {
  * An empty block takes nothing and hands the place back as it stood. A place with more than 255 kept bytes is treated as fresh, wire count 0.
  * Refusals of the call: 8 where the place has a phase that does not exist. Then nothing is taken, and the place and all of `body` are as they stood.
  * Refusals of the line are not refusals of the call. They stand in `event`, as 1, 2, 3, 4 or 5 (at a body's end judged 1, 4, 5). A line heard from
- * a fresh place never gives 5: no body that begins with FE or FF is heard. Only a place made by hand, with an open body, can earn it.
+ * a fresh place never gives 5. Only an open body that the line did not leave so can earn it: a place made by hand, or other bytes lent beside it.
  * Lent: `body`, exactly 255 bytes. Lend the same bytes with each block, as they were left. At first they may hold anything. After a frame its body is
  * the first event.kept of them, until the next call. Bytes after those kept are as they stood. */
 QuayWent quay_listen(QuayPlace place, const uint8_t *block, size_t block_length, uint8_t body[QUAY_BODY_ROOM]);
@@ -238,7 +238,8 @@ QuayKilograms quay_kilograms(QuayWeight weight);
  * Refusals: 11 (a record that breaks a rule, kind 0, or one that carries a refusal), 9, in this order. */
 QuayWritten quay_write_record(QuayRecord item, uint8_t *room, size_t room_length);
 
-/* Reads a record of 20 bytes. Refusal: 11, also for more bytes or fewer. */
+/* Reads a record of 20 bytes. Refusal: 11, also for more bytes or fewer. A refusal 5 in a log from before came from a
+ * terminal at A0 to FD, when 9F was the highest address. */
 QuayRecord quay_read_record(const uint8_t *bytes, size_t bytes_length);
 
 /* The record at a byte place of a log. At or past its end: kind 0 and no refusal.

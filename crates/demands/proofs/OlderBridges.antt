@@ -4,7 +4,7 @@ use mathlib.Core.Path.{refl}
 use mathlib.Core.List.{flatten}
 use lib.Dec.{lit≤}
 use Rattle.check_byte.specs.Register.{shiftIn, feedBits, feedByte, feedAll, received, checkOf}
-use Rattle.low_first.specs.LowFirst.{lowFirst}
+use Rattle.low_first.specs.LowFirst.{lowFirst, lowBytes}
 use Rattle.body.specs.Addresses.{legal, addressBytes, addressIn, addressLength}
 use Rattle.body.specs.Body.{unchecked, bodyOf, short, judged, judgedLent, codeIn, dataIn}
 use Rattle.frame.specs.Stuffing.{stuffedByte, stuffed, framed, countFF, needed}
@@ -19,19 +19,19 @@ use Rattle.message.specs.Reading.{messageOf, readMessage, readIf}
 use Rattle.demands.specs.Wire.{onWire, wireOf}
 use Rattle.demands.specs.Reading.{heardBy}
 use Rattle.demands.specs.HighAddresses.{FiveEarned}
-use Rattle.demands.specs.OlderBridges.{RangeOfShort, OlderBridges}
+use Rattle.demands.specs.OlderBridges.{RangeOfAddresses, OlderBridges}
 use Rattle.demands.specs.Weighings.{recordsFrom}
 use Rattle.weighing_log.specs.Hearing.{metRecord, weighedRecord, recordOf}
 use Rattle.records.specs.Records.{addressOf, goodAddress, goodWeighing, good}
 use Rattle.entries.specs.Entries.{entryHeard}
 
 pub five-earned : FiveEarned
-unfolding shiftIn feedBits feedByte feedAll received legal addressIn short judged judgedLent stuffedByte stuffed framed tick keep ended hearIn hear heardThen events listening taken heardBy judgedFields judgedWrite writtenFrame judgedMessage readIf readMessage
-five-earned = record { number = refl; handed-in = refl; handed-in-ff = refl; lent = refl; message = refl; writing = refl; no-event = refl }
+unfolding shiftIn feedBits feedByte feedAll received legal addressIn short judged judgedLent stuffedByte stuffed framed tick keep ended hearIn hear heardThen events listening taken heardBy addressBytes lowBytes unchecked checkOf bodyOf countFF needed judgedFields judgedWrite writtenFrame judgedMessage readIf readMessage
+five-earned = record { number = refl; handed-in = refl; handed-in-ff = refl; lent = refl; message = refl; writing = refl; accepted = refl; no-event = refl }
 
-range : RangeOfShort
+range : RangeOfAddresses
 unfolding legal
-range = record { inside = refl; outside = refl }
+range = record { inside = refl; outside = refl; serials = refl }
 
 pub older-bridges : OlderBridges
 unfolding flatten shiftIn feedBits feedByte feedAll received legal addressIn addressLength short judged judgedLent codeIn dataIn stuffedByte stuffed framed onWire wireOf tick keep ended hearIn hear heardThen events listening taken heardBy inRange readOf valueOf fourIn lineIn lineOf rowOf lowFirst judgedData judgedMessage judgedCode messageOf readIf readMessage addressBytes unchecked checkOf bodyOf countFF needed judgedFields judgedWrite writtenFrame recordsFrom recordOf metRecord weighedRecord good goodWeighing goodAddress addressOf entryHeard

@@ -9,7 +9,7 @@ use lib.Pow.{areBytes}
 use Rattle.refusal.specs.declared.Refusal.{Refusal}
 use Rattle.refusal.specs.declared.Refusal.the-variants.{AddressIllegal}
 use Rattle.refusal.specs.declared.Verdict.{Verdict}
-use Rattle.refusal.specs.declared.Verdict.the-variants.{Refused}
+use Rattle.refusal.specs.declared.Verdict.the-variants.{Good, Refused}
 use Rattle.refusal.specs.Numbers.{numberOf}
 use Rattle.body.specs.declared.addresses.Address.{Address}
 use Rattle.body.specs.declared.addresses.Address.the-variants.{Short, Serial}
@@ -84,7 +84,7 @@ insideEmpty = record { place = record { phase = Inside; wire = record { 0 = 0 };
 abbrev pub verdictFrom : Address → Verdict
 verdictFrom address = writtenFrame address 0xC3 [] (replicate 20 0) .answer .verdict
 
--- a state handed in, a lent body and a writer's address can still earn it. The frame rule's bytes of such a body give a fresh listener no event.
+-- a state handed in, a lent body and a writer's address can still earn it; the ends of the range do not. The frame rule's bytes of such a body give a fresh listener no event.
 pub record FiveEarned : Type 0 where
   pub number : numberOf AddressIllegal ≡ 5
   pub handed-in : heardBy insideEmpty (stuffed fromFE ++ (0xFF ∷ 0xFF ∷ [])) ≡ refused AddressIllegal 5 3 ∷ []
@@ -92,4 +92,5 @@ pub record FiveEarned : Type 0 where
   pub lent : map judgedLent (fromFE ∷ fromFF ∷ []) ≡ Refused AddressIllegal ∷ Refused AddressIllegal ∷ []
   pub message : map (readMessage Reply) (fromFE ∷ fromFF ∷ []) ≡ received-as.Refused AddressIllegal ∷ received-as.Refused AddressIllegal ∷ []
   pub writing : map verdictFrom (Short 0 ∷ Short 0xFE ∷ Short 0xFF ∷ Serial 16_777_216 ∷ []) ≡ replicate 4 (Refused AddressIllegal)
+  pub accepted : map verdictFrom (Short 0x01 ∷ Short 0xFD ∷ Serial 16_777_215 ∷ []) ≡ replicate 3 Good
   pub no-event : map (events fresh) (framed fromFE ∷ framed fromFF ∷ []) ≡ [] ∷ [] ∷ []

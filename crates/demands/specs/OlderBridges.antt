@@ -5,11 +5,12 @@ use mathlib.Core.Path.{_≡_}
 use mathlib.Core.Bool.{true, false}
 use mathlib.Core.List.{List, [], _∷_, map, flatten}
 use lib.IntN.{pos, negsuc}
-use lib.ListN.{drop, replicate}
-use Rattle.refusal.specs.declared.Verdict.the-variants.{Good}
-use Rattle.body.specs.declared.addresses.Address.the-variants.{Short}
-use Rattle.body.specs.Addresses.{legal}
+use lib.ListN.{take, drop, replicate}
+use Rattle.body.specs.declared.addresses.Address.the-variants.{Short, Serial}
+use Rattle.body.specs.Addresses.{legal, addressIn}
+use Rattle.body.specs.Body.{codeIn, dataIn}
 use Rattle.frame.specs.Stuffing.{framed}
+use Rattle.frame.specs.Writing.{writtenFrame}
 use Rattle.line.specs.Listener.{frame, fresh, events}
 use Rattle.line.specs.Readers.{freshReader}
 use Rattle.weight.specs.declared.Value.the-variants.{Tenths}
@@ -24,12 +25,12 @@ use Rattle.demands.specs.Wire.{Sent, AllProper, wireOf}
 use Rattle.demands.specs.Examples.{Example, computed, bodiesOf, e3, e4}
 use Rattle.demands.specs.Reading.{heardBy}
 use Rattle.demands.specs.Weighings.{recordsHeard}
-use Rattle.demands.specs.HighAddresses.{verdictFrom}
 
--- the ends of the range
-pub record RangeOfShort : Type 0 where
+-- the ends of the range; "or a serial too large": the serial's rule is as it was
+pub record RangeOfAddresses : Type 0 where
   pub inside : map (λ (byte : ℕ). legal (Short byte)) (0x01 ∷ 0x9F ∷ 0xA0 ∷ 0xA4 ∷ 0xF0 ∷ 0xFD ∷ []) ≡ replicate 6 true
   pub outside : map (λ (byte : ℕ). legal (Short byte)) (0x00 ∷ 0xFE ∷ 0xFF ∷ []) ≡ replicate 3 false
+  pub serials : map (λ (serial : ℕ). legal (Serial serial)) (0 ∷ 16_777_215 ∷ 16_777_216 ∷ []) ≡ true ∷ true ∷ false ∷ []
 
 -- E3's weight from A4, E4's from F0, and a serial number with an FF in it from FD, the highest short address
 abbrev pub fromA4 : List ℕ
@@ -61,17 +62,23 @@ olderExample = record {
   values = Tenths (pos 251_000_000) ∷ Tenths (negsuc 4_999_999) ∷ [];
 }
 
+-- a body taken apart and handed to the frame writer, with room enough: the bytes that it wrote
+abbrev pub writtenAgain : List ℕ → List ℕ
+writtenAgain body =
+    let left = writtenFrame (addressIn body) (codeIn body) (dataIn body) (replicate 20 0) in
+    take (left .answer .length) (left .room)
+
 -- the frames are the user's frames of demand 3. Their wire reads back, whole and in order. Who joins behind its first byte misses only the first
--- frame. Each body is written as it was heard, by the frame rule and, as far as the verdict goes, by the writer.
+-- frame. Each body is written as it was heard, by the frame rule and by the frame writer.
 pub record OlderBridges : Type 0 where
-  pub range : RangeOfShort
+  pub range : RangeOfAddresses
   pub frames : AllProper older
   pub laid : wireOf older ≡ olderExample .bytes
   pub read : computed olderExample ≡ olderExample
   pub by-reader : heardBy freshReader (olderExample .bytes) ≡ olderExample .heard
   pub joined-late : events fresh (drop 1 (olderExample .bytes)) ≡ frame 19 7 fromF0 ∷ frame 29 6 fromFD ∷ []
   pub written : flatten (map framed (bodiesOf (olderExample .heard))) ≡ olderExample .bytes
-  pub by-writer : map verdictFrom (Short 0xA4 ∷ Short 0xF0 ∷ Short 0xFD ∷ []) ≡ replicate 3 Good
+  pub by-writer : flatten (map writtenAgain (bodiesOf (olderExample .heard))) ≡ olderExample .bytes
   pub noted :
       recordsHeard (λ (number : ℕ). number) Reply (olderExample .heard)
       ≡ weighing 1 (Short 0xA4) Gross (e3 .bytes) ∷ weighing 2 (Short 0xF0) Net (e4 .bytes) ∷ []
