@@ -11,6 +11,7 @@ use lib.Dec.{T, ltb, eqb, ltb→lt}
 use lib.ListN.{length, getD}
 use lib.Pow.{areBytes}
 use Rattle.refusal.specs.declared.Refusal.{Refusal}
+use Rattle.refusal.specs.declared.Refusal.the-variants.{AddressIllegal}
 use Rattle.refusal.specs.declared.Verdict.{Verdict}
 use Rattle.refusal.specs.declared.Verdict.the-variants.{Good, Refused}
 use Rattle.refusal.specs.Numbers.{numberOf}
@@ -71,15 +72,15 @@ low-legal body all low = by-first (eqb (getD body 0 0) 0) refl
         rw (le-leb 1 (getD body 0 0) (omega arith), le-leb (getD body 0 0) highestShort (omega arith))
 
 -- so 5 is not what it is refused by, at its end or as a message
-not-illegal : (body : List ℕ) → legal (addressIn body) ≡ true → legal (addressIn body) ≡ false → (number : ℕ) → number ≡ 5 → ⊥
-not-illegal body right wrong number five = let clash : _≡_ {A = ℕ} 0 1 = cc in omega arith
+not-illegal : (body : List ℕ) → legal (addressIn body) ≡ true → legal (addressIn body) ≡ false → NotFive AddressIllegal
+not-illegal body right wrong five = let clash : _≡_ {A = ℕ} 0 1 = cc in omega arith
 
 end-not-five : (body : List ℕ) → legal (addressIn body) ≡ true → (why : Refusal) → judged body ≡ Refused why → NotFive why
-end-not-five body right = end-refuses NotFive body (λ five. omega arith) (λ five. omega arith) (λ wrong. not-illegal body right wrong 5)
+end-not-five body right = end-refuses NotFive body (λ five. omega arith) (λ five. omega arith) (not-illegal body right)
 
 message-not-five : (body : List ℕ) → judged body ≡ Good → (role : Role) (why : Refusal) → readMessage role body ≡ received-as.Refused why → NotFive why
 message-not-five body good =
-    message-refuses NotFive body (λ five. omega arith) (λ five. omega arith) (λ wrong. not-illegal body (good-address body good) wrong 5) (λ five. omega arith)
+    message-refuses NotFive body (λ five. omega arith) (λ five. omega arith) (not-illegal body (good-address body good)) (λ five. omega arith)
     (λ five. omega arith) (λ five. omega arith) (λ five. omega arith)
 
 -- ---- one byte

@@ -1,6 +1,6 @@
--- Shown: every log that was good stays good with the same records, and what is good now and was not is a weighing from a higher address.
+-- Shown: every log that was good stays good with the same records, and no other was; what was added is a weighing from a higher address.
 -- Why: of the rule only the limit moved, and it moved up.
-use Prim.Native.Nat.{ℕ, _^_, _<_}
+use Prim.Native.Nat.{ℕ, zero, suc, _/_, _^_, _<_}
 use mathlib.Core.Path.{_≡_, _∙_, refl, sym, subst}
 use mathlib.Core.Bool.{Bool, true, false, cond, _&&_, _||_, and-eq-true-iff}
 use mathlib.Core.List.{List, [], _∷_, _++_, append-nil}
@@ -8,23 +8,25 @@ use mathlib.Core.Logic.{_⊎_, inl, inr}
 use native.Mathlib.Omega.{arith}
 use borrow.Author.Tests.{leb-true, leb-false, le-leb, lt-leb, eqb-true, eqb-false, eq-eqb, ne-eqb}
 use lib.Dec.{leb, eqb}
-use lib.ListN.{length}
+use lib.ListN.{length, take, drop, length-drop, take-append-drop}
 use Rattle.refusal.specs.declared.Verdict.the-variants.{Good}
+use Rattle.refusal.proofs.Verdicts.{refused-not-good}
 use Rattle.weight.specs.Bytes.{readable, readOf}
 use Rattle.body.specs.declared.addresses.Address.the-variants.{Short, Serial}
 use Rattle.body.specs.Addresses.{highestShort, legal}
 use Rattle.records.specs.declared.records.Record.{Record}
+use Rattle.records.specs.declared.reading.RecordRead.{RecordRead}
 use Rattle.records.specs.declared.reading.RecordRead.the-variants as record-read-as
 use Rattle.records.specs.Records.{weighs, wasMet, addressOf, goodAddress, readingIn, goodWeighing, goodMet, good}
 use Rattle.records.specs.Layout.{bytesOfRecord, recordIn, restZero}
 use Rattle.records.specs.Reading.{makeRecord, readRecord}
 use Rattle.low_first.specs.LowFirst.{lowBytes}
-use Rattle.records.specs.Stepping.{recordsOf, wholeLog}
-use Rattle.records.proofs.Joining.{one-more}
+use Rattle.records.specs.Stepping.{Log, ahead, recordsOf, wholeLog}
+use Rattle.records.proofs.Joining.{one-more, apart, empty as no-bytes}
 use Rattle.records.proofs.RoundTrip.{record-length, record-back}
-use Rattle.records.proofs.Rules.{read-is}
+use Rattle.records.proofs.Rules.{read-is, read-length, rest as last-zero}
 use Rattle.weighing_log.specs.Hearing.{metOnLine}
-use Rattle.demands.specs.LogsFromBefore.{highestBefore, goodAddressBefore, goodBefore, WasGood, empty, first, StaysGood, FiveStaysGood, FromHigher, OnlyHigherAdded, HigherAdded, Moved}
+use Rattle.demands.specs.LogsFromBefore.{highestBefore, goodAddressBefore, goodBefore, WasGood, empty, first, StaysGood, EachBefore, WereGood, FiveStaysGood, FromHigher, OnlyHigherAdded, HigherAdded, Moved}
 
 -- ---- an address
 
@@ -133,6 +135,30 @@ stays (first bytes {log} size rest was later) = one-more bytes log size ∙ rw (
 
 pub stays-good : StaysGood
 stays-good log items was = stays was
+
+-- the first record of a log, and the rest of it
+first-were : (log : List ℕ) (rest : Log) (entry : RecordRead) → readRecord (take 20 log) ≡ entry → ahead entry rest .ending ≡ Good
+    → EachBefore (ahead entry rest .records) → (rest .ending ≡ Good → EachBefore (rest .records) → WasGood (drop 20 log) (rest .records))
+    → WasGood log (ahead entry rest .records)
+first-were log rest (record-read-as.Record item) was whole (one, later) behind =
+    let bytes = take 20 log in
+    let is = read-is bytes item was in
+    subst (λ (l : List ℕ). WasGood l (item ∷ rest .records)) (take-append-drop 20 log)
+    (subst (λ (record′ : Record). WasGood (bytes ++ drop 20 log) (record′ ∷ rest .records)) (sym is)
+    (first bytes (read-length bytes item was) (last-zero bytes item was) (subst (λ (record′ : Record). goodBefore record′ ≡ true) is one) (behind whole later)))
+first-were log rest (record-read-as.Refused why) was whole all behind = refused-not-good whole
+
+were-count : (count : ℕ) (log : List ℕ) → length log / 20 ≡ count → wholeLog log .ending ≡ Good → EachBefore (wholeLog log .records)
+    → WasGood log (wholeLog log .records)
+unfolding wholeLog recordsOf
+were-count zero log e whole all = rw (no-bytes log e whole) empty
+were-count (suc count) log e whole all =
+    rw (apart log count e)
+    (first-were log (wholeLog (drop 20 log)) (readRecord (take 20 log)) refl (rw (apart log count e) at whole) (rw (apart log count e) at all)
+    (were-count count (drop 20 log) (omega (arith, length-drop 20 log))))
+
+pub were-good : WereGood
+were-good log = were-count (length log / 20) log refl
 
 module _ (time : ℕ) (small : time < 2 ^ 64) where
   abbrev met : Record

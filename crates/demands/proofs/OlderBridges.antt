@@ -16,14 +16,14 @@ use Rattle.weight.specs.Tenths.{valueOf}
 use Rattle.codes.specs.Table.{lineIn, lineOf, rowOf}
 use Rattle.meaning.specs.Judging.{judgedCode, judgedData, judgedMessage}
 use Rattle.message.specs.Reading.{messageOf, readMessage, readIf}
+use Rattle.records.specs.Records.{addressOf, goodAddress, goodWeighing, good}
+use Rattle.weighing_log.specs.Hearing.{metRecord, weighedRecord, recordOf}
+use Rattle.entries.specs.Entries.{entryHeard}
 use Rattle.demands.specs.Wire.{onWire, wireOf}
 use Rattle.demands.specs.Reading.{heardBy}
 use Rattle.demands.specs.HighAddresses.{FiveEarned}
 use Rattle.demands.specs.OlderBridges.{RangeOfAddresses, OlderBridges}
 use Rattle.demands.specs.Weighings.{recordsFrom}
-use Rattle.weighing_log.specs.Hearing.{metRecord, weighedRecord, recordOf}
-use Rattle.records.specs.Records.{addressOf, goodAddress, goodWeighing, good}
-use Rattle.entries.specs.Entries.{entryHeard}
 
 pub five-earned : FiveEarned
 unfolding shiftIn feedBits feedByte feedAll received legal addressIn short judged judgedLent stuffedByte stuffed framed tick keep ended hearIn hear heardThen events listening taken heardBy addressBytes lowBytes unchecked checkOf bodyOf countFF needed judgedFields judgedWrite writtenFrame judgedMessage readIf readMessage

@@ -84,7 +84,8 @@ insideEmpty = record { place = record { phase = Inside; wire = record { 0 = 0 };
 abbrev pub verdictFrom : Address → Verdict
 verdictFrom address = writtenFrame address 0xC3 [] (replicate 20 0) .answer .verdict
 
--- a state handed in, a lent body and a writer's address can still earn it; the ends of the range do not. The frame rule's bytes of such a body give a fresh listener no event.
+-- a state handed in, a lent body and a writer's address can still earn it; the ends of the range do not. The frame rule's bytes of such a body give
+-- a fresh listener no event.
 pub record FiveEarned : Type 0 where
   pub number : numberOf AddressIllegal ≡ 5
   pub handed-in : heardBy insideEmpty (stuffed fromFE ++ (0xFF ∷ 0xFF ∷ [])) ≡ refused AddressIllegal 5 3 ∷ []

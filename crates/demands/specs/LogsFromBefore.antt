@@ -39,6 +39,14 @@ pub data WasGood : List ℕ → List Record → Type 0 where
 abbrev pub StaysGood : Type 0
 StaysGood = (log : List ℕ) (items : List Record) → WasGood log items → wholeLog log ≡ record { records = items; ending = Good }
 
+-- and no log is left out of WasGood: one that is whole now, each of whose records was good, was good
+abbrev pub EachBefore : List Record → Type 0
+EachBefore [] = Unit {0}
+EachBefore (item ∷ items) = (goodBefore item ≡ true) × EachBefore items
+
+abbrev pub WereGood : Type 0
+WereGood = (log : List ℕ) → wholeLog log .ending ≡ Good → EachBefore (wholeLog log .records) → WasGood log (wholeLog log .records)
+
 -- a log of one refusal 5 was good and is good (among other records: StaysGood)
 pub record FiveKept (time : ℕ) : Type 0 where
   pub before : WasGood (bytesOfRecord (metOnLine time 5)) (metOnLine time 5 ∷ [])
