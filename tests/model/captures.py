@@ -204,6 +204,16 @@ def clean_wire(source):
     return bodies, b''.join(delimited(source, body) for body in bodies)
 
 
+def placed_frames(source):
+    """(a clean wire, where the first byte of each body stands on it, the bodies)."""
+    wire, starts, bodies = b'', [], clean_bodies(source)
+    for body in bodies:
+        framed = delimited(source, body)
+        starts.append(len(wire) + len(framed) - len(framed.lstrip(b'\xff')))
+        wire += framed
+    return wire, starts, bodies
+
+
 def paper_captures():
     yield 'empty', b''
     for name, text in PAPER:

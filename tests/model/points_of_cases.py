@@ -1,15 +1,19 @@
-"""What the cases and samples must hold, so that nothing of 02 request 1 goes unasked."""
+"""What the cases and samples must hold, so that nothing of 02 requests 1 and 2 goes unasked."""
+
+from functools import lru_cache
 
 import cases
+import cases_walker
 from addresses import BRIDGES, HIGH
 from captures import weight_from
 from check_byte import register_of
 from frame import frame_of
-from line import FRESH, hear, kept_bytes
+from line import FRESH, feed, hear, kept_bytes
 from listing import listing_of
 from message import judge_message
 from refusals import ACCEPTED
 from sample import older
+from walker import END
 
 
 def right_first(body):
@@ -38,6 +42,11 @@ def framed_in(wire):
     return bytes(first for first in HIGH if frame_of(weight_from(first)) in wire)
 
 
+def framed_at(wire):
+    """The one of interest with whose frame a wire starts."""
+    return bytes(first for first in HIGH if wire.startswith(frame_of(weight_from(first))))
+
+
 def weighed(kind, first):
     """The address of a record of kinds 1 and 2."""
     return bytes([first]) if kind in (1, 2) else b''
@@ -53,6 +62,8 @@ ASKED = {
     'feed': ended,
     'feed_block': lambda state, block: framed_in(block) if state == FRESH else b'',
     'hear': framed_in,
+    'walker_step': lambda lent, block, place: framed_at(block[place:]),
+    'walk': lambda block, place: framed_in(block[place:]),
     'read_message': spoken_first,
     'write_message': lambda role, address, *rest: short_of(address),
     'read_record': lambda twenty: weighed(twenty[8], twenty[9]),
@@ -91,4 +102,112 @@ def test_older_sample(expect):
     expect('older', b'\xff\xfe\xc3' in older(), True)  # an address heard as FE
 
 
-TESTS = (test_every_layer_is_asked, test_older_sample)
+@lru_cache(maxsize=None)
+def phases_of(block):
+    """The phase of a fresh reader ahead of each byte of a block, and at its end."""
+    state, phases = FRESH, [FRESH.phase]
+    for byte in block:
+        state, _ = feed(state, byte)
+        phases.append(state.phase)
+    return phases
+
+
+def stands(phase, bytes_there):
+    """Whether a reader fed the block up to the place is in a phase there, and
+    which bytes come next."""
+    return lambda block, place: (place < len(block) and phases_of(block)[place] == phase
+                                 and block.startswith(bytes_there, place))
+
+
+def stops(phase):
+    """Whether the block stops in a phase, and the place is ahead of its end."""
+    return lambda block, place: place < len(block) and phases_of(block)[-1] == phase
+
+
+def in_empty_block(at):
+    return lambda block, place: not block and place == at
+
+
+# Where a walker is started, by name.
+PLACES = {
+    'the front': lambda block, place: block and place == 0,
+    'behind an opening FF': stands('delimited', b'\x01'),
+    'behind an FF, on an FE': stands('delimited', b'\xfe'),
+    'inside a frame': stands('inside', b''),
+    'on a stuffed FF': stands('inside', b'\xff\xfe'),
+    'on an inserted FE': stands('held', b'\xfe'),
+    'behind an inserted FE': lambda block, place: place > 0 and stands('held', b'\xfe')(block, place - 1),
+    'on the first closing FF': stands('inside', b'\xff\xff'),
+    'between two closing FFs': stands('held', b'\xff'),
+    'on a stray byte': stands('held', b'\x02'),
+    'stops Inside': stops('inside'),
+    'stops Held': stops('held'),
+    'the end': lambda block, place: block and place == len(block),
+    'one past the end': lambda block, place: block and place == len(block) + 1,
+    'far past the end': lambda block, place: block and len(block) + 1 < place < 2 ** 64 - 1,
+    'the last place': lambda block, place: block and place == 2 ** 64 - 1,
+    'empty block at 0': in_empty_block(0),
+    'empty block at 1': in_empty_block(1),
+    'empty block at the last place': in_empty_block(2 ** 64 - 1),
+}
+
+
+@lru_cache(maxsize=None)
+def walker_cases(function):
+    """(inputs, answer) of the walker's cases of one function."""
+    return [case[1:] for case in cases_walker.cases() if case[0] == function]
+
+
+def test_walkers_start_everywhere(expect):
+    """A step and a walk from each kind of place."""
+    for function in ('walker_step', 'walk'):
+        starts = [inputs[-2:] for inputs, _ in walker_cases(function)]
+        for name, holds in PLACES.items():
+            expect('%s: %s' % (function, name), any(holds(*start) for start in starts), True)
+
+
+def test_small_captures_from_every_place(expect):
+    """Each small capture is walked and stepped from every place up to one past its end."""
+    for function in ('walker_step', 'walk'):
+        starts = {inputs[-2:] for inputs, _ in walker_cases(function)}
+        for block in cases_walker.small_captures():
+            missing = [place for place in range(len(block) + 2) if (block, place) not in starts]
+            expect('%s of %s' % (function, block.hex()), missing, [])
+
+
+def lent_kind(lent):
+    if not lent or lent == b'\xff' * 255:
+        return 'all FF' if lent else 'zeros'
+    return 'all marked' if len(lent) == 255 else 'few marked'
+
+
+def met_kind(block, place, met):
+    if met == END:
+        return 'end at once' if place >= len(block) else 'end'
+    return met.number
+
+
+def test_lent_bytes_are_marked(expect):
+    """A step that meets a frame, each refusal of a line, the end, and the end at
+    once, with each kind of lent bytes. Refusal 2 is met by the long bodies only."""
+    asked = {(lent_kind(lent), met_kind(block, place, met))
+             for (lent, block, place), (met, _, _) in walker_cases('walker_step')}
+    for lent in ('zeros', 'few marked', 'all marked', 'all FF'):
+        for met in (0, 1, 3, 4, 'end', 'end at once'):
+            expect('lent ' + lent, (lent, met) in asked, True)
+    for lent in ('all marked', 'all FF'):
+        expect('lent ' + lent, (lent, 2) in asked, True)
+
+
+def test_walks_meet_everything(expect):
+    """Frames of up to 255 bytes, each refusal of a line, also with 255 bytes kept,
+    and walks of none, one and more events."""
+    walks = [answer for _, answer in walker_cases('walk')]
+    met = {(event.number, event.count == 255) for steps, *_ in walks for event, _ in steps}
+    expect('walks', sorted(met), [(0, False), (0, True), (1, False), (2, True), (3, False), (3, True), (4, False)])
+    expect('walks', {min(count, 2) for _, count, *_ in walks}, {0, 1, 2})
+    expect('walks', {(more, ended == after) for _, _, ended, more, after in walks}, {(END, True)})
+
+
+TESTS = (test_every_layer_is_asked, test_older_sample, test_walkers_start_everywhere,
+         test_small_captures_from_every_place, test_lent_bytes_are_marked, test_walks_meet_everything)

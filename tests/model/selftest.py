@@ -1,4 +1,4 @@
-"""The model tests itself: E1 to E8, the paper's listing, the open points, 02 request 1.
+"""The model tests itself: E1 to E8, the paper's listing, the open points, 02 requests 1 and 2.
 
     python3 tests/model/selftest.py
 
@@ -17,6 +17,7 @@ import points_of_addresses
 import points_of_cases
 import points_of_lines
 import points_of_messages
+import points_of_walks
 import points_of_weights
 from check_byte import check_of, register_of
 from expecting import Expectations
@@ -106,11 +107,7 @@ def test_frames_handed_back(expect):
     still has an FF ahead of it, and nothing else is."""
     source = RandomBytes(5)
     for _ in range(25):
-        wire, starts, bodies = b'', [], captures.clean_bodies(source)
-        for body in bodies:
-            framed = captures.delimited(source, body)
-            starts.append(len(wire) + len(framed) - len(framed.lstrip(b'\xff')))
-            wire += framed
+        wire, starts, bodies = captures.placed_frames(source)
         for place in range(0, len(wire), 1 if len(wire) < 120 else 7):
             heard = [event.body for event in line.hear(wire[place:])]
             wanted = [body for start, body in zip(starts, bodies) if start > place]
@@ -141,7 +138,7 @@ def test_random_source(expect):
 TESTS = (test_judged_examples, test_longest_body, test_paper_listing, test_misreadings, test_check,
          test_frames_handed_back, test_blocks, test_random_source) \
     + points_of_lines.TESTS + points_of_messages.TESTS + points_of_weights.TESTS \
-    + points_of_addresses.TESTS + points_of_cases.TESTS
+    + points_of_addresses.TESTS + points_of_walks.TESTS + points_of_cases.TESTS
 
 
 def main():

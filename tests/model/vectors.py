@@ -16,14 +16,16 @@ import cases_line
 import cases_listing
 import cases_log
 import cases_message
+import cases_walker
 import cases_weight
 from cases import words_of
 from log import Record
 import message
 from refusals import ACCEPTED
+from walker import END
 
 LONGEST = 4096  # of a text, and of a room
-FIRST_WRITER = 24  # from this number on a function is lent room: the last of its inputs
+FIRST_WRITER = 26  # from this number on a function is lent room: the last of its inputs
 PHASES = cases_line.PHASES
 BLOCK_SIZES = (0, 1, 2, 7, 64)  # of a capture; 0 is the whole of it at once
 NOTHING, TOLD, REFUSED = 0, 1, 2  # how an answer of three kinds starts
@@ -93,6 +95,11 @@ def byte_to_take(before, byte):
 
 def block_to_feed(before, block):
     return kept(before) + block, half(len(kept(before))) + place(before)
+
+
+def step_to_take(lent, block, at):
+    """The front of the 255 lent bytes, and the block behind it."""
+    return lent + block, half(len(lent)) + long(at)
 
 
 def to_write(of, code, data):
@@ -165,6 +172,21 @@ def heard_told(count, events):
     return [event_told(of) for of in events], count
 
 
+def met_told(of):
+    """What a step of the walker met: nothing where it says "end"."""
+    return (NOTHING,) if of == END else event_told(of)
+
+
+def walker_stepped(of, after, lent):
+    return met_told(of), after, lent
+
+
+def walked(steps, count, ended, more, after):
+    """Each event with the place after it, their number, and the place at "end";
+    then the one step more."""
+    return [(met_told(of), behind) for of, behind in steps], count, ended, met_told(more), after
+
+
 def signed(value):
     """A whole number as the float that it is, by its 64 bits: exact below 2^53."""
     assert abs(value) < 2 ** 53
@@ -234,7 +256,7 @@ FRAME_RUN = {
     'judge_lent': [Layout(5, text_alone, as_it_is)],
     'open_body': [Layout(6, text_alone, or_refused(opened))],
     'room_needed': [Layout(7, to_write, or_refused(as_it_is))],
-    'write_frame': [Layout(24, to_write, as_it_is)],
+    'write_frame': [Layout(26, to_write, as_it_is)],
 }
 LINE_RUN = {
     'feed': [Layout(8, byte_to_take, lambda after, given: fed_told(after, 1, given))],
@@ -243,6 +265,10 @@ LINE_RUN = {
 WIRE_RUN = {
     'hear': [Layout(11, lambda capture, size=size: (capture, half(size)), heard_told)
              for size in BLOCK_SIZES],
+}
+WALKER_RUN = {
+    'walker_step': [Layout(24, step_to_take, walker_stepped)],
+    'walk': [Layout(25, lambda block, at: (block, long(at)), walked)],
 }
 WEIGHT_RUN = {
     'read_reading': [Layout(12, numbers_alone, as_it_is)],
@@ -255,18 +281,18 @@ WEIGHT_RUN = {
 }
 MESSAGE_RUN = {
     'read_message': [Layout(19, lambda spoken, body: (body, role(spoken)), or_refused(received))],
-    'write_message': [Layout(25, message_to_write, as_it_is)],
+    'write_message': [Layout(27, message_to_write, as_it_is)],
 }
 LOG_RUN = {
     'read_record': [Layout(20, text_alone, as_it_is)],
     'record_heard': [Layout(21, to_note, noted)],
     'step': [Layout(22, lambda log, at: (log, long(at)), stepped)],
     'weight_noted': [Layout(23, record, as_it_is)],
-    'write_record': [Layout(26, record, as_it_is)],
+    'write_record': [Layout(28, record, as_it_is)],
 }
 LISTING_RUN = {
-    'write_line': [Layout(27, to_list, as_it_is)],
-    'write_total': [Layout(28, lambda *counts: numbers_alone(*map(long, counts)), as_it_is)],
+    'write_line': [Layout(29, to_list, as_it_is)],
+    'write_total': [Layout(30, lambda *counts: numbers_alone(*map(long, counts)), as_it_is)],
 }
 
 # The parts that are run. `stuffed` and `frame_of` have no public function of their own
@@ -275,7 +301,7 @@ LISTING_RUN = {
 RUN = (
     (cases_frame.cases, FRAME_RUN), (cases_line.cases, LINE_RUN), (cases_weight.cases, WEIGHT_RUN),
     (messages, MESSAGE_RUN), (cases_log.cases, LOG_RUN), (cases_listing.cases, LISTING_RUN),
-    (cases_line.wires, WIRE_RUN))
+    (cases_line.wires, WIRE_RUN), (cases_walker.cases, WALKER_RUN))
 
 
 def given(layout, inputs):

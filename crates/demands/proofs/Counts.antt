@@ -43,12 +43,12 @@ unfolding after
 few-after listener [] few = few
 few-after listener (byte ∷ bytes) few = few-after (hear listener byte .next) bytes (counted listener byte few .0)
 
-ticked : (listener : Listener) (byte : ℕ) → hear listener byte .next .wire ≡ tick (listener .wire)
+pub ticked : (listener : Listener) (byte : ℕ) → hear listener byte .next .wire ≡ tick (listener .wire)
 ticked listener byte =
     every-step (λ (s : Step). s .next .wire ≡ tick (listener .wire)) listener byte
     (record { empty = λ _ _. refl; as-it-was = refl; keeps = λ _ _ _. refl; full = λ _. refl; broken = refl; good = λ _. refl; bad = λ _ _. refl })
 
-ticks : (listener : Listener) (before : List ℕ) → tick (after listener before .wire) ≡ (listener .wire + length before + 1) % 2 ^ 64
+pub ticks : (listener : Listener) (before : List ℕ) → tick (after listener before .wire) ≡ (listener .wire + length before + 1) % 2 ^ 64
 unfolding after tick
 ticks listener [] = omega arith
 ticks listener (byte ∷ before) = omega (arith, ticks (hear listener byte .next) before, ticked listener byte)

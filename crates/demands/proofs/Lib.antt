@@ -1,6 +1,8 @@
 pub mod AllHeard
 pub mod ByPlaces
+pub mod BehindAnEvent
 pub mod Bytes
+pub mod CaptureWalks
 pub mod Corollaries
 pub mod Counts
 pub mod Cuts
@@ -8,6 +10,7 @@ pub mod Demand3
 pub mod Examples
 pub mod HighAddresses
 pub mod Kept
+pub mod LastByte
 pub mod Logs
 pub mod LogsFromBefore
 pub mod Loops
@@ -21,5 +24,7 @@ pub mod Shown
 pub mod Stops
 pub mod Tells
 pub mod Unheard
+pub mod WalkersWalk
+pub mod WalksShown
 pub mod Weighings
 pub mod WrittenDown

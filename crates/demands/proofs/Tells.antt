@@ -4,16 +4,18 @@ use Prim.Native.Nat.{ℕ}
 use mathlib.Core.Path.{_≡_, refl, ap}
 use mathlib.Core.Bool.{Bool, true, false}
 use mathlib.Core.List.{List, [], _∷_, List·Memᴰ·head, List·Memᴰ·not-nil}
+use mathlib.Core.Logic.{inl, inr}
 use native.Mathlib.Omega.{arith}
 use lib.ListN.{getD, replicate}
-use Rattle.refusal.specs.declared.Refusal.the-variants.{BodyLong, CheckWrong, AddressIllegal, CodeUnknown, LengthWrong, FieldOutside, RoomShort}
+use Rattle.refusal.specs.declared.Refusal.the-variants.{BodyShort, BodyLong, HeldBroken, CheckWrong, AddressIllegal, CodeUnknown, LengthWrong, FieldOutside, RoomShort}
 use Rattle.refusal.specs.declared.Verdict.{Verdict}
 use Rattle.refusal.specs.declared.Verdict.the-variants.{Good, Refused}
 use Rattle.body.specs.declared.addresses.Address.the-variants.{Short, Serial}
 use Rattle.check_byte.specs.Register.{shiftIn, feedBits, feedByte, feedAll, received}
 use Rattle.body.specs.Addresses.{legal, addressBytes, addressIn}
 use Rattle.body.specs.Body.{unchecked, bodyOf, short, judged, judgedLent}
-use Rattle.line.specs.Listener.{Heard, nothing, frame, refused}
+use Rattle.line.specs.Listener.{Heard, nothing, frame, refused, seeking, delimited, tick, keep, hearIn, hear}
+use Rattle.line.specs.Readers.{listening, taken, fedFrom, fedLent}
 use Rattle.weight.specs.declared.FourBytes.{FourBytes}
 use Rattle.weight.specs.declared.Reading.{Reading}
 use Rattle.weight.specs.Bytes.{inRange, readOf, bytesOf, packedOf}
@@ -28,11 +30,15 @@ use Rattle.entries.specs.declared.entries.Entry.the-variants as entry-as
 use Rattle.entries.specs.Entries.{entryHeard}
 use Rattle.meaning.specs.Judging.{judgedMessage}
 use Rattle.message.specs.Reading.{readIf, readMessage}
+use Rattle.capture_walker.specs.Walking.{startAt, StepTaken, stepFrom}
+use Rattle.demands.specs.CaptureWalks.{EndsForEver, LeavesLine, CountsWire, MovedOn}
 use Rattle.demands.specs.Counts.{Within, Carries}
 use Rattle.demands.specs.HighAddresses.{NoFive, WrittenWithoutFive, fromFE}
 use Rattle.demands.specs.Kept.{WeightReply}
 use Rattle.demands.specs.Messages.{ExactlyWhere, FirstToFail}
+use Rattle.demands.specs.Shown.{plain}
 use Rattle.demands.specs.Unheard.{NotesItsWeight}
+use Rattle.demands.specs.WalksShown.{morning, sevens}
 use Rattle.demands.specs.Weighings.{ReplyHeard, Among, WeighingHeard, recordsFrom, recordsHeard, ListedHeard}
 use Rattle.demands.specs.WrittenDown.{Sound}
 use Rattle.demands.proofs.Logs.{line-log-whole}
@@ -208,3 +214,60 @@ not-length right h = let was = h .wrong-length .0 refl .1 in let clash : _≡_ {
 
 not-field : FirstToFail true true true Good (Refused FieldOutside) → ⊥
 not-field h = let was = h .outside .0 refl .1 .1 in let clash : _≡_ {A = ℕ} 0 1 = cc in omega arith
+
+-- ---- walks
+
+-- a step from inside the block does not stay
+ends-early : EndsForEver morning 12 → ⊥
+unfolding tick keep hearIn hear listening taken fedFrom fedLent startAt stepFrom
+ends-early h = omega (arith, ap (λ (s : StepTaken). s .answer .place) (h sevens))
+
+-- an event given twice: the walk did not move on
+given-twice : MovedOn morning 6 (frame 6 3 plain) 6 → ⊥
+given-twice m = omega (arith, m .forward)
+
+past-the-end : MovedOn morning 6 (frame 14 3 plain) 14 → ⊥
+past-the-end m = omega (arith, m .inside)
+
+-- a frame is left behind an FF, 2 and 3 behind another byte; 6 is no refusal of the line, and nothing is no event
+leaves-other : LeavesLine (frame 6 3 plain) 0x02 delimited → ⊥
+leaves-other (ff, _) = omega (arith, ff)
+
+leaves-seeking : LeavesLine (frame 6 3 plain) 0xFF seeking → ⊥
+leaves-seeking (_, is) = let z : _≡_ {A = ℕ} 0 1 = cc in omega arith
+
+long-behind-ff : LeavesLine (refused BodyLong 257 255) 0xFF seeking → ⊥
+long-behind-ff (inl (inl e, _)) = omega (arith, e)
+long-behind-ff (inl (inr (inl e), _)) = omega (arith, e)
+long-behind-ff (inl (inr (inr e), _)) = omega (arith, e)
+long-behind-ff (inr (_, (other, _))) = other refl
+
+broken-delimited : LeavesLine (refused HeldBroken 10 1) 0xFF delimited → ⊥
+broken-delimited (inl (inl e, _)) = omega (arith, e)
+broken-delimited (inl (inr (inl e), _)) = omega (arith, e)
+broken-delimited (inl (inr (inr e), _)) = omega (arith, e)
+broken-delimited (inr (_, (other, _))) = other refl
+
+short-seeking : LeavesLine (refused BodyShort 4 1) 0x02 seeking → ⊥
+short-seeking (inl (_, (ff, _))) = omega (arith, ff)
+short-seeking (inr (inl e, _)) = omega (arith, e)
+short-seeking (inr (inr e, _)) = omega (arith, e)
+
+unknown-code : LeavesLine (refused CodeUnknown 6 3) 0xFF delimited → ⊥
+unknown-code (inl (inl e, _)) = omega (arith, e)
+unknown-code (inl (inr (inl e), _)) = omega (arith, e)
+unknown-code (inl (inr (inr e), _)) = omega (arith, e)
+unknown-code (inr (inl e, _)) = omega (arith, e)
+unknown-code (inr (inr e, _)) = omega (arith, e)
+
+leaves-nothing : LeavesLine nothing 0xFF delimited → ⊥
+leaves-nothing none = none
+
+counts-frame : CountsWire 5 (frame 6 3 plain) → ⊥
+counts-frame e = omega (arith, e)
+
+counts-refused : CountsWire 5 (refused HeldBroken 10 1) → ⊥
+counts-refused e = omega (arith, e)
+
+counts-nothing : CountsWire 0 nothing → ⊥
+counts-nothing none = none

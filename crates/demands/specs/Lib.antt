@@ -1,3 +1,4 @@
+pub mod CaptureWalks
 pub mod Counts
 pub mod Examples
 pub mod HighAddresses
@@ -13,6 +14,8 @@ pub mod Reading
 pub mod Shown
 pub mod Stops
 pub mod Unheard
+pub mod WalkersWalk
+pub mod WalksShown
 pub mod Weighings
 pub mod Wire
 pub mod WrittenDown

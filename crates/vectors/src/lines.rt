@@ -84,7 +84,7 @@ fn say_frame(wire: u64, count: usize, body: &[u8]) {
 }
 
 // What an event tells: its counts, and the body or the refusal's number.
-fn say_event(event: Event, body: &[u8]) {
+pub(crate) fn say_event(event: Event, body: &[u8]) {
     match event {
         Event::Nothing => say_small(0),
         Event::Frame(wire, kept) => say_frame(wire.0, kept.0, body),

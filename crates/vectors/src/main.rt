@@ -9,6 +9,7 @@ mod lines;
 mod listings;
 mod logs;
 mod messages;
+mod walks;
 mod weights;
 mod words;
 
@@ -19,7 +20,7 @@ use room::Written;
 use words::say_written;
 
 // From this number on the functions write into lent room.
-const FIRST_WRITER: u8 = 24;
+const FIRST_WRITER: u8 = 26;
 
 // The functions, each under its number.
 fn tell(function: u8, text: &[u8]) {
@@ -46,17 +47,19 @@ fn tell(function: u8, text: &[u8]) {
         20 => logs::read(text),
         21 => logs::heard(text),
         22 => logs::step(text),
-        _ => logs::noted(),
+        23 => logs::noted(),
+        24 => walks::step(text),
+        _ => walks::walk(text),
     }
 }
 
 // Those that write into lent room.
 fn write(function: u8, text: &[u8], room: &mut [u8]) -> Written {
     match function {
-        24 => frames::write(text, room),
-        25 => messages::write(text, room),
-        26 => logs::write(room),
-        27 => listings::write_line(text, room),
+        26 => frames::write(text, room),
+        27 => messages::write(text, room),
+        28 => logs::write(room),
+        29 => listings::write_line(text, room),
         _ => listings::write_total(room),
     }
 }

@@ -1,0 +1,5 @@
+pub mod AtRest
+pub mod OneAnswer
+pub mod OneStep
+pub mod Scan
+pub mod WithinReach

@@ -1,0 +1,3 @@
+pub mod Scanning
+pub mod Walkers
+pub mod Walking
