@@ -13,12 +13,11 @@ use Rattle.body.specs.Body.{longest}
 use Rattle.line.specs.declared.places.Event.{Event}
 use Rattle.line.specs.declared.places.Event.the-variants.{Nothing, Frame, Refused}
 use Rattle.line.specs.declared.reading.Reader.{Reader}
-use Rattle.line.specs.declared.reading.Taken.{Taken}
 use Rattle.line.specs.declared.reading.Fed.{Fed}
-use Rattle.line.specs.Listener.{nothing, Listener, Step, hear}
+use Rattle.line.specs.Listener.{nothing, Listener, hear}
 use Rattle.line.specs.Readers.{listening, placeOf, taken, unless, fedFrom, fed}
 use Rattle.line.proofs.Blocks.{standing}
-use Rattle.capture_walker.specs.Walking.{startAt, nextOf, StepTaken, saidEnd, afterHearing, stepFrom}
+use Rattle.capture_walker.specs.Walking.{startAt, nextOf, saidEnd, afterHearing, stepFrom}
 use Rattle.capture_walker.specs.Scanning.{delimitedAt, startsBody}
 use Rattle.capture_walker.proofs.AtRest.{at-start, none-kept, at-rest-byte}
 use Rattle.capture_walker.proofs.OneStep.{lent-full, step-ends, step-hears}

@@ -111,7 +111,7 @@ by-first used reader byte block more later spoken Nothing e =
 by-first used reader byte block more later spoken (Frame wire kept) e = rw e
 by-first used reader byte block more later spoken (Refused why wire kept) e = rw e
 
-no-further : (used : ℕ) (reader : Reader) (block more : List ℕ) → Spoken used reader block → fedFrom used reader (block ++ more) ≡ fedFrom used reader block
+pub no-further : (used : ℕ) (reader : Reader) (block more : List ℕ) → Spoken used reader block → fedFrom used reader (block ++ more) ≡ fedFrom used reader block
 unfolding fedFrom
 no-further used reader [] more spoken = absurd (spoken refl)
 no-further used reader (byte ∷ block) more spoken =

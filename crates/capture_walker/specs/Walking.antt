@@ -50,7 +50,7 @@ abbrev pub afterHearing : ℕ → Fed → StepTaken
 afterHearing place heard = record { answer = record { next = nextOf (heard .event); place = place + heard .used }; body = heard .reader .body }
 
 -- "An empty block, or a place past its end, ends at once": the place stays, and nothing lent changes. From any other place the rest of the block is
--- heard as a line is.
+-- heard as a line is. (255 bytes are lent; a list of another length, which nobody can lend, would take nothing.)
 unfoldable pub stepFrom : List ℕ → ℕ → List ℕ → StepTaken
 stepFrom block place lent =
     cond (leb (length block) place) (saidEnd place lent)

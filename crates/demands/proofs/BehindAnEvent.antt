@@ -1,6 +1,6 @@
 -- Shown: a listener that started from a place of a block and gave an event stands as a walk starts behind the event's byte.
 -- Why: an event leaves no body open, the byte before tells the rest of the state, and each byte counts one.
-use Prim.Native.Nat.{ℕ, zero, suc, _+_, _-_, _%_, _^_, _≤_, _<_}
+use Prim.Native.Nat.{ℕ, zero, suc, _+_, _-_, _%_, _^_, _≤_}
 use mathlib.Core.Path.{_≡_, _∙_, refl, sym, ap, subst}
 use mathlib.Core.List.{List, [], _∷_, _++_, append-assoc}
 use native.Mathlib.Omega.{arith}

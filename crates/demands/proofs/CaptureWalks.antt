@@ -5,28 +5,27 @@ use mathlib.Core.Path.{_≡_, _∙_, refl, sym, ap, subst}
 use mathlib.Core.Bool.{Bool, true, false}
 use mathlib.Core.List.{List, [], _∷_, _++_, append-assoc}
 use native.Mathlib.Omega.{arith}
-use native.Mathlib.Nat.{zero-add}
-use borrow.Author.Tests.{leb-true, leb-false, le-leb, lt-leb}
+use borrow.Author.Tests.{leb-true, leb-false}
 use lib.Dec.{leb}
-use lib.ListN.{length, drop, length-drop, drop-of-length-le, length-append}
-use lib.Seq.{drop-drop, drop-at}
+use lib.ListN.{length, drop, length-drop, drop-of-length-le, length-append, List·getD-append}
+use lib.Seq.{drop-append-le, drop-drop, drop-at}
 use Rattle.body.specs.Body.{longest}
 use Rattle.line.specs.declared.places.Event.{Event}
 use Rattle.line.specs.declared.places.Event.the-variants.{Nothing, Frame, Refused}
 use Rattle.line.specs.declared.reading.Reader.{Reader}
 use Rattle.line.specs.declared.reading.Fed.{Fed}
 use Rattle.line.specs.Listener.{Heard, nothing, Listener, fresh, hear, heardThen, events, after}
-use Rattle.line.specs.Readers.{view, listening, placeOf, heardAs, taken, fed, freshReader}
+use Rattle.line.specs.Readers.{view, placeOf, heardAs, taken, fed}
 use Rattle.line.proofs.Blocks.{standing}
 use Rattle.line.proofs.Joined.{joined, told}
-use Rattle.capture_walker.specs.declared.stepping.Next.{Next}
 use Rattle.capture_walker.specs.declared.stepping.Next.the-variants as next-as
 use Rattle.capture_walker.specs.Walking.{startAt, nextOf, StepTaken, saidEnd, afterHearing, stepFrom}
 use Rattle.capture_walker.proofs.AtRest.{at-start}
 use Rattle.capture_walker.proofs.OneStep.{lent-full, step-ends, step-hears}
+use Rattle.capture_walker.proofs.WithinReach.{no-further}
 use Rattle.demands.specs.Reading.{afterBytes}
 use Rattle.demands.specs.Wire.{wireOf}
-use Rattle.demands.specs.CaptureWalks.{met, Lends, Walk, ends, goes, endFrom, WalkTells, WalkFromStart, WalkFromAnyPlace, EndsAtOnce, WalkerDemand3, MovedOn, EveryStep, WalksOn}
+use Rattle.demands.specs.CaptureWalks.{met, Lends, Walk, ends, goes, endFrom, WalkTells, WalkFromStart, WalkFromAnyPlace, EndsAtOnce, WalkerDemand3, MovedOn, EveryStep, WalksOn, GrownBlock}
 use Rattle.demands.proofs.BehindAnEvent.{stands-behind, moved-on}
 use Rattle.demands.proofs.Cuts.{any-cut}
 use Rattle.demands.proofs.Demand3.{shared-demand3}
@@ -206,22 +205,48 @@ walk-from-start block =
 pub walker-demand3 : WalkerDemand3
 walker-demand3 list shared joined = rw (← shared-demand3 list shared joined) (walk-from-start (drop joined (wireOf list)) .as-listener)
 
--- ---- walking on from an event of the byte-fed reader
+-- ---- walking on behind an event
 
 pub walks-on : WalksOn
-unfolding startAt after listening
-walks-on before byte later some =
-    let block = before ++ (byte ∷ later) in
-    let first : 0 + length before + 1 ≡ length before + 1 = omega arith in
-    let left = any-cut fresh before (byte ∷ []) .left in
-    let stands : startAt block (length before + 1) ≡ after fresh (before ++ (byte ∷ [])) =
-    ap (startAt block) (sym first) ∙ stands-behind block 0 before byte later refl some ∙ sym left in
-    let ahead : drop (length before + 1) block ≡ later =
-    ap (drop (length before + 1)) (sym (append-assoc before (byte ∷ []) later)) ∙ drop-at (before ++ (byte ∷ [])) later (length before + 1) (length-append before (byte ∷ [])) in
+unfolding after
+walks-on block place before byte later cut some =
+    let left = any-cut (startAt block place) before (byte ∷ []) .left in
+    let stands = stands-behind block place before byte later cut some ∙ sym left in
+    let far : place + length before + 1 ≡ place + (length before + 1) = omega arith in
+    let ahead : drop (place + length before + 1) block ≡ later =
+    ap (λ (n : ℕ). drop n block) far ∙ sym (drop-drop (length before + 1) place block)
+    ∙ ap (drop (length before + 1)) (cut ∙ sym (append-assoc before (byte ∷ []) later))
+    ∙ drop-at (before ++ (byte ∷ [])) later (length before + 1) (length-append before (byte ∷ [])) in
     record {
       stands = stands;
-      stands-as-reader = stands ∙ sym (view-after freshReader (before ++ (byte ∷ [])));
-      tells = subst (λ (told : List Heard). WalkTells block (length before + 1) told)
-          (ap (λ (l : Listener). events l (drop (length before + 1) block)) stands ∙ ap (events (after fresh (before ++ (byte ∷ [])))) ahead)
-          (walk-from-any-place block (length before + 1));
+      tells = subst (λ (told : List Heard). WalkTells block (place + length before + 1) told)
+          (ap (λ (l : Listener). events l (drop (place + length before + 1) block)) stands ∙ ap (events (after (startAt block place) (before ++ (byte ∷ [])))) ahead)
+          (walk-from-any-place block (place + length before + 1));
+    }
+
+-- ---- a block that has grown
+
+-- the start at a place is that of the bytes before it
+start-grown : (block more : List ℕ) (place : ℕ) → place ≤ length block → startAt (block ++ more) place ≡ startAt block place
+unfolding startAt
+start-grown block more zero within = refl
+start-grown block more (suc before) within = rw (List·getD-append block more 0 before (omega arith))
+
+pub grown-block : GrownBlock
+grown-block block more place lent full event behind body is =
+    let (on, _) = goes-on (one-step block place lent full) is in
+    let within : place < length block = omega (arith, on .forward, on .inside) in
+    let reader = standing (placeOf (startAt block place)) lent in
+    let answer = fed reader (drop place block) in
+    let heard = step-is block place lent full within in
+    let next : nextOf (answer .event) ≡ next-as.Event event = ap (λ (s : StepTaken). s .answer .next) (sym heard ∙ is) in
+    let spoken : answer .event ≡ Nothing → ⊥ = λ none. let clash : next-as.End ≡ next-as.Event event = ap nextOf (sym none) ∙ next in let z : _≡_ {A = ℕ} 0 1 = cc in omega arith in
+    let longer : place < length (block ++ more) = omega (arith, length-append block more) in
+    record {
+      meets =
+          step-is (block ++ more) place lent full longer
+          ∙ ap (λ (l : Listener). afterHearing place (fed (standing (placeOf l) lent) (drop place (block ++ more)))) (start-grown block more place (omega arith))
+          ∙ ap (λ (l : List ℕ). afterHearing place (fed reader l)) (drop-append-le place block more (omega arith))
+          ∙ ap (afterHearing place) (no-further 0 reader (drop place block) more spoken) ∙ sym heard ∙ is;
+      stands = start-grown block more behind (on .inside);
     }

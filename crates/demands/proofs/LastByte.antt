@@ -1,7 +1,7 @@
 -- Shown: an event is given by the last byte that a block gave up, and that byte tells how the line is left: Delimited behind an FF, or Seeking.
 -- Why: a block is fed byte by byte by its definition, and in each state only the tests on the byte lead to an event.
 use Prim.Native.Nat.{ℕ, _+_}
-use mathlib.Core.Path.{_≡_, _∙_, refl, sym, ap}
+use mathlib.Core.Path.{_≡_, _∙_, refl, ap}
 use mathlib.Core.List.{List, [], _∷_, _++_}
 use mathlib.Core.Logic.{_⊎_, inl, inr, ⊎-elim}
 use native.Mathlib.Omega.{arith}

@@ -7,6 +7,7 @@ use mathlib.Core.List.{List, [], _∷_, List·Memᴰ·head, List·Memᴰ·not-ni
 use mathlib.Core.Logic.{inl, inr}
 use native.Mathlib.Omega.{arith}
 use lib.ListN.{getD, replicate}
+use denote.Ref.{RefT, now}
 use Rattle.refusal.specs.declared.Refusal.the-variants.{BodyShort, BodyLong, HeldBroken, CheckWrong, AddressIllegal, CodeUnknown, LengthWrong, FieldOutside, RoomShort}
 use Rattle.refusal.specs.declared.Verdict.{Verdict}
 use Rattle.refusal.specs.declared.Verdict.the-variants.{Good, Refused}
@@ -30,19 +31,25 @@ use Rattle.entries.specs.declared.entries.Entry.the-variants as entry-as
 use Rattle.entries.specs.Entries.{entryHeard}
 use Rattle.meaning.specs.Judging.{judgedMessage}
 use Rattle.message.specs.Reading.{readIf, readMessage}
+use Rattle.capture_walker.specs.declared.walking.Walker.{Walker}
+use Rattle.capture_walker.specs.declared.walking.Walked.{Walked}
 use Rattle.capture_walker.specs.Walking.{startAt, StepTaken, stepFrom}
-use Rattle.demands.specs.CaptureWalks.{EndsForEver, LeavesLine, CountsWire, MovedOn}
+use Rattle.capture_walker.specs.Walkers.{walkerAt, WalkerSteps}
+use Rattle.demands.specs.CaptureWalks.{EndsForEver, WalkTells, LeavesLine, CountsWire, MovedOn}
 use Rattle.demands.specs.Counts.{Within, Carries}
 use Rattle.demands.specs.HighAddresses.{NoFive, WrittenWithoutFive, fromFE}
 use Rattle.demands.specs.Kept.{WeightReply}
 use Rattle.demands.specs.Messages.{ExactlyWhere, FirstToFail}
 use Rattle.demands.specs.Shown.{plain}
 use Rattle.demands.specs.Unheard.{NotesItsWeight}
+use Rattle.demands.specs.WalkersWalk.{WalkerTells}
 use Rattle.demands.specs.WalksShown.{morning, sevens}
 use Rattle.demands.specs.Weighings.{ReplyHeard, Among, WeighingHeard, recordsFrom, recordsHeard, ListedHeard}
 use Rattle.demands.specs.WrittenDown.{Sound}
 use Rattle.demands.proofs.Logs.{line-log-whole}
 use Rattle.demands.proofs.Unheard.{always-its-weight}
+use Rattle.demands.proofs.WalkersWalk.{by-walker}
+use Rattle.demands.proofs.WalksShown.{walks-shown}
 
 -- ---- counts
 
@@ -253,6 +260,20 @@ short-seeking (inl (_, (ff, _))) = omega (arith, ff)
 short-seeking (inr (inl e, _)) = omega (arith, e)
 short-seeking (inr (inr e, _)) = omega (arith, e)
 
+short-at-rest : LeavesLine (refused BodyShort 4 1) 0xFF seeking → ⊥
+short-at-rest (inl (_, (_, is))) = let z : _≡_ {A = ℕ} 0 1 = cc in omega arith
+short-at-rest (inr (inl e, _)) = omega (arith, e)
+short-at-rest (inr (inr e, _)) = omega (arith, e)
+
+short-behind-other : LeavesLine (refused BodyShort 4 1) 0x02 delimited → ⊥
+short-behind-other (inl (_, (ff, _))) = omega (arith, ff)
+short-behind-other (inr (inl e, _)) = omega (arith, e)
+short-behind-other (inr (inr e, _)) = omega (arith, e)
+
+broken-at-delimiter : LeavesLine (refused HeldBroken 10 1) 0x02 delimited → ⊥
+broken-at-delimiter (inl (_, (ff, _))) = omega (arith, ff)
+broken-at-delimiter (inr (_, (_, is))) = let z : _≡_ {A = ℕ} 0 1 = cc in omega arith
+
 unknown-code : LeavesLine (refused CodeUnknown 6 3) 0xFF delimited → ⊥
 unknown-code (inl (inl e, _)) = omega (arith, e)
 unknown-code (inl (inr (inl e), _)) = omega (arith, e)
@@ -271,3 +292,20 @@ counts-refused e = omega (arith, e)
 
 counts-nothing : CountsWire 0 nothing → ⊥
 counts-nothing none = none
+
+-- what a walk of the small morning tells is that and nothing else; and a walker's end, once it is said, is that walker and changes nothing lent
+morning-only : {told : List Heard} → WalkTells morning 0 told → frame 6 3 plain ∷ refused HeldBroken 10 1 ∷ [] ≡ told
+morning-only walk = walk .only (λ _. sevens) (λ _. refl) _ _ (walks-shown .whole-walks .told) .0
+
+no-silence : WalkTells morning 0 [] → ⊥
+no-silence walk = let e = morning-only walk in let z : _≡_ {A = ℕ} 0 1 = cc in omega arith
+
+no-other-end : (block : RefT (List ℕ)) (end : ℕ) {told : List Heard} → now block ≡ morning → WalkerTells (walkerAt block 0) told (walkerAt block end) → 13 ≡ end
+no-other-end block end is walk =
+    ap (λ (w : Walker). w .place) (walk .only (λ _. sevens) (λ _. refl) (frame 6 3 plain ∷ refused HeldBroken 10 1 ∷ []) (walkerAt block 13) (by-walker block (rw is (walks-shown .whole-walks .told))) .1)
+
+nothing-changes : {walker end : Walker} {told : List Heard} → WalkerTells walker told end → (lent left : List ℕ) (answered : Walked) → WalkerSteps end lent answered left
+    → (answered .walker ≡ end) × (left ≡ lent)
+nothing-changes walk lent left answered steps =
+    let (said, same) = walk .for-ever lent left answered steps in
+    (ap (λ (a : Walked). a .walker) said, same)

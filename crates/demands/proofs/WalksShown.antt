@@ -6,11 +6,11 @@ use native.Mathlib.Omega.{arith}
 use Rattle.check_byte.specs.Register.{shiftIn, feedBits, feedByte, feedAll, received}
 use Rattle.body.specs.Addresses.{legal, addressIn}
 use Rattle.body.specs.Body.{short, judged}
-use Rattle.line.specs.Listener.{tick, keep, ended, hearIn, hear}
+use Rattle.line.specs.Listener.{tick, keep, ended, hearIn, hear, after}
 use Rattle.line.specs.Readers.{listening, taken, fedFrom, fedLent}
 use Rattle.capture_walker.specs.Walking.{startAt, stepFrom}
-use Rattle.demands.specs.CaptureWalks.{Walk, ends, goes}
-use Rattle.demands.specs.WalksShown.{Starts, Answers, FromInside, WholeWalks, WalkEnds, Leavings, WalksShown}
+use Rattle.demands.specs.CaptureWalks.{ends, goes}
+use Rattle.demands.specs.WalksShown.{Starts, Answers, FromInside, WholeWalks, GoneOn, WalkEnds, Leavings, WalksShown}
 use Rattle.demands.proofs.WalkersWalk.{by-walker}
 
 starts : Starts
@@ -46,6 +46,10 @@ whole-walks = record {
   to-its-end = λ block is. by-walker block (rw is (goes refl (goes refl (ends refl))));
 }
 
+gone-on : GoneOn
+unfolding shiftIn feedBits feedByte feedAll received legal addressIn short judged tick keep ended hearIn hear after startAt
+gone-on = record { behind-frame = refl; behind-refusal = refl; cut-off = refl; behind-end = refl }
+
 walk-ends : WalkEnds
 walk-ends = record { from-start = refl; from-end = refl; from-past = refl; of-empty = refl }
 
@@ -62,4 +66,4 @@ leavings = record {
 }
 
 pub walks-shown : WalksShown
-walks-shown = record { starts = starts; answers = answers; from-inside = from-inside; whole-walks = whole-walks; walk-ends = walk-ends; leavings = leavings }
+walks-shown = record { starts = starts; answers = answers; from-inside = from-inside; whole-walks = whole-walks; gone-on = gone-on; walk-ends = walk-ends; leavings = leavings }

@@ -12,10 +12,10 @@ use Rattle.refusal.specs.Numbers.{numberOf}
 use Rattle.body.specs.Body.{longest}
 use Rattle.line.specs.declared.places.Event.{Event}
 use Rattle.line.specs.Listener.{State, seeking, delimited, Heard, nothing, frame, refused, fresh, hear, events, after}
-use Rattle.line.specs.Readers.{view, heardAs, freshReader}
+use Rattle.line.specs.Readers.{heardAs, freshReader}
 use Rattle.capture_walker.specs.declared.stepping.Next.the-variants as next-as
 use Rattle.capture_walker.specs.Walking.{startAt, StepTaken, saidEnd, stepFrom}
-use Rattle.demands.specs.Reading.{afterBytes, heardBy}
+use Rattle.demands.specs.Reading.{heardBy}
 use Rattle.demands.specs.Wire.{Sent, AllShared, wireOf, heardOf}
 
 -- ---- a walk: step after step, until one says "end"
@@ -106,12 +106,23 @@ pub record MovesOrEnds (block : List ℕ) (place : ℕ) (lent : List ℕ) : Type
 abbrev pub EveryStep : Type 0
 EveryStep = (block : List ℕ) (place : ℕ) (lent : List ℕ) → length lent ≡ longest → MovesOrEnds block place lent
 
--- wherever the byte-fed reader that started fresh gave an event, a walk that is begun at that place goes on as that reader does, whatever follows in
--- the block: also if the block has grown since
-pub record GoesOnAsFed (before : List ℕ) (byte : ℕ) (rest : List ℕ) : Type 0 where
-  pub stands : startAt (before ++ (byte ∷ rest)) (length before + 1) ≡ after fresh (before ++ (byte ∷ []))
-  pub stands-as-reader : startAt (before ++ (byte ∷ rest)) (length before + 1) ≡ view (afterBytes freshReader (before ++ (byte ∷ [])))
-  pub tells : WalkTells (before ++ (byte ∷ rest)) (length before + 1) (events (after fresh (before ++ (byte ∷ []))) rest)
+-- wherever a byte-fed listener that started as a walk at a place gave an event, a walk begun behind that byte goes on as he does. At place 0 he is the
+-- fresh reader.
+pub record GoesOnAsFed (block : List ℕ) (place : ℕ) (before : List ℕ) (byte : ℕ) (rest : List ℕ) : Type 0 where
+  pub stands : startAt block (place + length before + 1) ≡ after (startAt block place) (before ++ (byte ∷ []))
+  pub tells : WalkTells block (place + length before + 1) (events (after (startAt block place) (before ++ (byte ∷ []))) rest)
 
 abbrev pub WalksOn : Type 0
-WalksOn = (before : List ℕ) (byte : ℕ) (rest : List ℕ) → (hear (after fresh before) byte .event ≡ nothing → ⊥) → GoesOnAsFed before byte rest
+WalksOn =
+    (block : List ℕ) (place : ℕ) (before : List ℕ) (byte : ℕ) (rest : List ℕ) → drop place block ≡ before ++ (byte ∷ rest)
+    → (hear (after (startAt block place) before) byte .event ≡ nothing → ⊥) → GoesOnAsFed block place before byte rest
+
+-- a block that has grown: the step that met an event meets it there too, and behind it the walk starts there as in the block as it was
+pub record SameThere (block more : List ℕ) (place : ℕ) (lent : List ℕ) (event : Event) (behind : ℕ) (body : List ℕ) : Type 0 where
+  pub meets : stepFrom (block ++ more) place lent ≡ met event behind body
+  pub stands : startAt (block ++ more) behind ≡ startAt block behind
+
+abbrev pub GrownBlock : Type 0
+GrownBlock =
+    (block more : List ℕ) (place : ℕ) (lent : List ℕ) → length lent ≡ longest → (event : Event) (behind : ℕ) (body : List ℕ)
+    → stepFrom block place lent ≡ met event behind body → SameThere block more place lent event behind body

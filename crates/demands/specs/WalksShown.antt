@@ -4,14 +4,14 @@ use mathlib.Core.Path.{_≡_}
 use mathlib.Core.Bool.{cond}
 use mathlib.Core.List.{List, [], _∷_, _++_}
 use lib.Dec.{eqb}
-use lib.ListN.{drop, replicate}
+use lib.ListN.{take, drop, replicate}
 use denote.Ref.{RefT, now}
 use Rattle.refusal.specs.declared.Refusal.{Refusal}
 use Rattle.refusal.specs.declared.Refusal.the-variants.{BodyShort, BodyLong, HeldBroken, CheckWrong, AddressIllegal}
 use Rattle.body.specs.Body.{longest}
 use Rattle.line.specs.declared.places.Event.{Event}
 use Rattle.line.specs.declared.places.Event.the-variants.{Frame, Refused}
-use Rattle.line.specs.Listener.{State, seeking, delimited, frame, refused, Listener, fresh}
+use Rattle.line.specs.Listener.{State, seeking, delimited, inside, frame, refused, Listener, fresh, after}
 use Rattle.capture_walker.specs.Walking.{startAt, saidEnd, stepFrom}
 use Rattle.capture_walker.specs.Walkers.{walkerAt}
 use Rattle.demands.specs.CaptureWalks.{met, Lends, Walk, endFrom, LeavesLine, CountsWire}
@@ -93,6 +93,13 @@ pub record WholeWalks : Type 0 where
   pub to-its-end : (block : RefT (List ℕ)) → now block ≡ morning
       → WalkersWalk (butAt 13) (walkerAt block 0) (frame 6 3 plain ∷ refused HeldBroken 10 1 ∷ []) (walkerAt block 13)
 
+-- behind an event a walk starts as the byte-fed reader stands there; behind its "end", inside a body, it does not
+pub record GoneOn : Type 0 where
+  pub behind-frame : startAt morning 6 ≡ after fresh (take 6 morning)
+  pub behind-refusal : startAt morning 10 ≡ after fresh (take 10 morning)
+  pub cut-off : after fresh morning ≡ listener (inside (0x05 ∷ 0x06 ∷ [])) 13
+  pub behind-end : startAt morning 13 ≡ listener seeking 13
+
 -- where a walk ends
 pub record WalkEnds : Type 0 where
   pub from-start : endFrom morning 0 ≡ 13
@@ -116,5 +123,6 @@ pub record WalksShown : Type 0 where
   pub answers : Answers
   pub from-inside : FromInside
   pub whole-walks : WholeWalks
+  pub gone-on : GoneOn
   pub walk-ends : WalkEnds
   pub leavings : Leavings

@@ -1,7 +1,7 @@
 -- `capture_walker::is_delimited` meets its contract: by the byte before the place, and at place 0 a fresh reader seeks.
 -- Why: the test on the byte is the definition's.
 use Prim.Native.Nat.{ℕ, zero, suc, _-_, _<_}
-use mathlib.Core.Path.{_≡_, refl}
+use mathlib.Core.Path.{_≡_}
 use mathlib.Core.List.{List}
 use native.Mathlib.Omega.{arith}
 use borrow.Author.Needs.{needs}
