@@ -20,6 +20,7 @@ startsBody is-delimited byte = (is-delimited && not (eqb byte 0xFF)) && not (eqb
 
 -- a promise: the step from one place is the step from the other, where a body starts or the block ends
 pub record SameStep (block : List ℕ) (from to : ℕ) : Type 0 where
+  pub within : to ≤ length block
   pub same : (lent : List ℕ) → length lent ≡ longest → stepFrom block to lent ≡ stepFrom block from lent
   pub starts : to < length block → startsBody (delimitedAt block to) (getD block to 0) ≡ true
 

@@ -4,7 +4,7 @@ use line::Phase;
 use line::Place;
 use line::WirePlace;
 ghost use mathlib.Core.Path.{_≡_};
-ghost use Prim.Native.Nat.{_≤_};
+ghost use Prim.Native.Nat.{_+_, _≤_};
 ghost use lib.ListN.{length};
 ghost use Rattle.capture_walker.specs.Scanning.{delimitedAt, startsBody, SameStep, Reaches};
 
@@ -34,23 +34,23 @@ fn starts_body(delimited: bool, byte: u8) -> bool
     delimited & (byte != DELIMITER) & (byte != INSERTED)
 }
 
-// The place of the next body's first byte, or the block's end. Nothing is heard and nothing kept on the way there, so the step from there is the
-// step from here.
-pub(crate) fn body_start(block: &[u8], from: usize) -> usize
+// How many bytes stand ahead of the next body's first byte, or of the block's end. Nothing is heard and nothing kept of them, so the step from behind
+// them is the step from here.
+pub(crate) fn ahead_of_body(block: &[u8], from: usize) -> usize
     requires { ⌜ from ≤ length (now block) ⌝ }
-    ensures { λ r. ⌜ SameStep (now (block .entry)) from r ⌝ }
+    ensures { λ r. ⌜ SameStep (now (block .entry)) from (from + r) ⌝ }
 {
     let mut delimited = is_delimited(block, from);
     let mut at = from;
     while at < block.len() {
         let byte = block[at];
         if starts_body(delimited, byte) {
-            return at;
+            return at - from;
         }
         delimited = byte == DELIMITER;
         at += 1;
     }
-    at
+    at - from
 }
 
 // Where the bytes end that can be needed from a body's first byte to its event: a listener who is told how far it is has less to look at.

@@ -1,6 +1,6 @@
 // One step from a place of a block: the work, on a slice and a number. A walker's step is a thin cover over it.
+use crate::starting::ahead_of_body;
 use crate::starting::behind_delimiter;
-use crate::starting::body_start;
 use crate::starting::reach;
 use body::LONGEST_BODY;
 use line::Event;
@@ -57,7 +57,8 @@ pub fn step_from(block: &[u8], place: usize, body: &mut [u8; 255]) -> Stepped
     if block.len() <= place {
         return end_at(place);
     }
-    let start = body_start(block, place);
+    let skipped = ahead_of_body(block, place);
+    let start = place + skipped;
     if block.len() <= start {
         return end_at(start);
     }

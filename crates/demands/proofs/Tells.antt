@@ -31,18 +31,19 @@ use Rattle.entries.specs.declared.entries.Entry.the-variants as entry-as
 use Rattle.entries.specs.Entries.{entryHeard}
 use Rattle.meaning.specs.Judging.{judgedMessage}
 use Rattle.message.specs.Reading.{readIf, readMessage}
+use Rattle.capture_walker.specs.declared.stepping.Next.the-variants as next-as
 use Rattle.capture_walker.specs.declared.walking.Walker.{Walker}
 use Rattle.capture_walker.specs.declared.walking.Walked.{Walked}
-use Rattle.capture_walker.specs.Walking.{startAt, StepTaken, stepFrom}
+use Rattle.capture_walker.specs.Walking.{startAt, StepTaken, saidEnd, stepFrom}
 use Rattle.capture_walker.specs.Walkers.{walkerAt, WalkerSteps}
-use Rattle.demands.specs.CaptureWalks.{EndsForEver, WalkTells, LeavesLine, CountsWire, MovedOn}
+use Rattle.demands.specs.CaptureWalks.{Lends, Walk, EndsForEver, endFrom, WalkTells, LeavesLine, CountsWire, MovedOn}
 use Rattle.demands.specs.Counts.{Within, Carries}
 use Rattle.demands.specs.HighAddresses.{NoFive, WrittenWithoutFive, fromFE}
 use Rattle.demands.specs.Kept.{WeightReply}
 use Rattle.demands.specs.Messages.{ExactlyWhere, FirstToFail}
 use Rattle.demands.specs.Shown.{plain}
 use Rattle.demands.specs.Unheard.{NotesItsWeight}
-use Rattle.demands.specs.WalkersWalk.{WalkerTells}
+use Rattle.demands.specs.WalkersWalk.{WalkersWalk, WalkerTells}
 use Rattle.demands.specs.WalksShown.{morning, sevens}
 use Rattle.demands.specs.Weighings.{ReplyHeard, Among, WeighingHeard, recordsFrom, recordsHeard, ListedHeard}
 use Rattle.demands.specs.WrittenDown.{Sound}
@@ -293,19 +294,27 @@ counts-refused e = omega (arith, e)
 counts-nothing : CountsWire 0 nothing → ⊥
 counts-nothing none = none
 
--- what a walk of the small morning tells is that and nothing else; and a walker's end, once it is said, is that walker and changes nothing lent
-morning-only : {told : List Heard} → WalkTells morning 0 told → frame 6 3 plain ∷ refused HeldBroken 10 1 ∷ [] ≡ told
-morning-only walk = walk .only (λ _. sevens) (λ _. refl) _ _ (walks-shown .whole-walks .told) .0
+-- what a walk tells is that and nothing else, and where it ends is there and nowhere else
+walk-only : {block : List ℕ} {place end : ℕ} {told other : List Heard} {lending : ℕ → List ℕ} → WalkTells block place told → Lends lending → Walk block lending place other end
+    → (other ≡ told) × (end ≡ endFrom block place)
+walk-only walk lends steps = walk .only _ lends _ _ steps
+
+walk-for-ever : {block : List ℕ} {place : ℕ} {told : List Heard} → WalkTells block place told → (lent : List ℕ) → stepFrom block (endFrom block place) lent ≡ saidEnd (endFrom block place) lent
+walk-for-ever walk lent = walk .for-ever lent
+
+walker-only : {walker end last : Walker} {told other : List Heard} {lending : ℕ → List ℕ} → WalkerTells walker told end → Lends lending → WalkersWalk lending walker other last
+    → (other ≡ told) × (last ≡ end)
+walker-only walk lends steps = walk .only _ lends _ _ steps
+
+walker-for-ever : {walker end : Walker} {told : List Heard} → WalkerTells walker told end → (lent left : List ℕ) (answered : Walked) → WalkerSteps end lent answered left
+    → (answered .next ≡ next-as.End) × ((answered .walker ≡ end) × (left ≡ lent))
+walker-for-ever walk lent left answered steps =
+    let (said, same) = walk .for-ever lent left answered steps in
+    (ap (λ (a : Walked). a .next) said, (ap (λ (a : Walked). a .walker) said, same))
 
 no-silence : WalkTells morning 0 [] → ⊥
-no-silence walk = let e = morning-only walk in let z : _≡_ {A = ℕ} 0 1 = cc in omega arith
+no-silence walk = let e = walk-only {lending = λ _. sevens} walk (λ _. refl) (walks-shown .whole-walks .told) .0 in let z : _≡_ {A = ℕ} 0 1 = cc in omega arith
 
 no-other-end : (block : RefT (List ℕ)) (end : ℕ) {told : List Heard} → now block ≡ morning → WalkerTells (walkerAt block 0) told (walkerAt block end) → 13 ≡ end
 no-other-end block end is walk =
-    ap (λ (w : Walker). w .place) (walk .only (λ _. sevens) (λ _. refl) (frame 6 3 plain ∷ refused HeldBroken 10 1 ∷ []) (walkerAt block 13) (by-walker block (rw is (walks-shown .whole-walks .told))) .1)
-
-nothing-changes : {walker end : Walker} {told : List Heard} → WalkerTells walker told end → (lent left : List ℕ) (answered : Walked) → WalkerSteps end lent answered left
-    → (answered .walker ≡ end) × (left ≡ lent)
-nothing-changes walk lent left answered steps =
-    let (said, same) = walk .for-ever lent left answered steps in
-    (ap (λ (a : Walked). a .walker) said, same)
+    ap (λ (w : Walker). w .place) (walker-only {last = walkerAt block 13} {other = frame 6 3 plain ∷ refused HeldBroken 10 1 ∷ []} {lending = λ _. sevens} walk (λ _. refl) (by-walker block (rw is (walks-shown .whole-walks .told))) .1)

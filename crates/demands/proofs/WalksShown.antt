@@ -10,7 +10,7 @@ use Rattle.line.specs.Listener.{tick, keep, ended, hearIn, hear, after}
 use Rattle.line.specs.Readers.{listening, taken, fedFrom, fedLent}
 use Rattle.capture_walker.specs.Walking.{startAt, stepFrom}
 use Rattle.demands.specs.CaptureWalks.{ends, goes}
-use Rattle.demands.specs.WalksShown.{Starts, Answers, FromInside, WholeWalks, GoneOn, WalkEnds, Leavings, WalksShown}
+use Rattle.demands.specs.WalksShown.{Starts, Answers, FromInside, WholeWalks, GoneOn, Grown, WalkEnds, Leavings, WalksShown}
 use Rattle.demands.proofs.WalkersWalk.{by-walker}
 
 starts : Starts
@@ -48,7 +48,11 @@ whole-walks = record {
 
 gone-on : GoneOn
 unfolding shiftIn feedBits feedByte feedAll received legal addressIn short judged tick keep ended hearIn hear after startAt
-gone-on = record { behind-frame = refl; behind-refusal = refl; cut-off = refl; behind-end = refl }
+gone-on = record { behind-frame = refl; behind-refusal = refl; cut-off = refl; behind-end = refl; from-inside = refl }
+
+of-grown : Grown
+unfolding shiftIn feedBits feedByte feedAll received legal addressIn short judged tick keep ended hearIn hear listening taken fedFrom fedLent startAt stepFrom
+of-grown = record { not-yet = refl; broken = refl; behind-end = refl }
 
 walk-ends : WalkEnds
 walk-ends = record { from-start = refl; from-end = refl; from-past = refl; of-empty = refl }
@@ -66,4 +70,4 @@ leavings = record {
 }
 
 pub walks-shown : WalksShown
-walks-shown = record { starts = starts; answers = answers; from-inside = from-inside; whole-walks = whole-walks; gone-on = gone-on; walk-ends = walk-ends; leavings = leavings }
+walks-shown = record { starts = starts; answers = answers; from-inside = from-inside; whole-walks = whole-walks; gone-on = gone-on; grown = of-grown; walk-ends = walk-ends; leavings = leavings }

@@ -107,7 +107,7 @@ abbrev pub EveryStep : Type 0
 EveryStep = (block : List ℕ) (place : ℕ) (lent : List ℕ) → length lent ≡ longest → MovesOrEnds block place lent
 
 -- wherever a byte-fed listener that started as a walk at a place gave an event, a walk begun behind that byte goes on as he does. At place 0 he is the
--- fresh reader.
+-- fresh listener.
 pub record GoesOnAsFed (block : List ℕ) (place : ℕ) (before : List ℕ) (byte : ℕ) (rest : List ℕ) : Type 0 where
   pub stands : startAt block (place + length before + 1) ≡ after (startAt block place) (before ++ (byte ∷ []))
   pub tells : WalkTells block (place + length before + 1) (events (after (startAt block place) (before ++ (byte ∷ []))) rest)

@@ -99,6 +99,19 @@ pub record GoneOn : Type 0 where
   pub behind-refusal : startAt morning 10 ≡ after fresh (take 10 morning)
   pub cut-off : after fresh morning ≡ listener (inside (0x05 ∷ 0x06 ∷ [])) 13
   pub behind-end : startAt morning 13 ≡ listener seeking 13
+  pub from-inside : startAt morning 10 ≡ after (startAt morning 2) (drop 2 (take 10 morning))
+
+-- a block that grows: E7 cut off behind its held FF. From the start it is refused; from behind its "end" its rest would be taken for a frame
+abbrev pub cut : List ℕ
+cut = 0xFF ∷ 0x01 ∷ 0xFF ∷ []
+
+abbrev pub grown : List ℕ
+grown = cut ++ (0x01 ∷ 0xC3 ∷ 0xE3 ∷ 0xFF ∷ 0xFF ∷ [])
+
+pub record Grown : Type 0 where
+  pub not-yet : stepFrom cut 0 sevens ≡ saidEnd 3 (0x01 ∷ drop 1 sevens)
+  pub broken : stepFrom grown 0 sevens ≡ met (refusal HeldBroken 4 1) 4 (0x01 ∷ drop 1 sevens)
+  pub behind-end : stepFrom grown 3 sevens ≡ met (whole 8 3) 8 (plain ++ drop 3 sevens)
 
 -- where a walk ends
 pub record WalkEnds : Type 0 where
@@ -124,5 +137,6 @@ pub record WalksShown : Type 0 where
   pub from-inside : FromInside
   pub whole-walks : WholeWalks
   pub gone-on : GoneOn
+  pub grown : Grown
   pub walk-ends : WalkEnds
   pub leavings : Leavings

@@ -1,6 +1,6 @@
 -- `capture_walker::step_from` meets its contract: "end" at or past the block's end, and from any other place what the rest of the block gives.
 -- Why: the rest is heard by `listen` from where the next body starts, and the step from there is the step from the place.
-use Prim.Native.Nat.{ℕ, _<_}
+use Prim.Native.Nat.{ℕ, _+_, _<_}
 use mathlib.Core.Path.{_≡_, _∙_, refl, sym}
 use mathlib.Core.List.{List}
 use native.Mathlib.Omega.{arith}
@@ -43,8 +43,11 @@ returns-2 c =
     let lent = start .args .body .now in
     steps-as _ _ _ _ _ (said _ lent (c .end-at2 .ensures) ∙ sym (step-ends (start .args .block .now) (start .args .place) lent (c .before .if2 .taken)))
 
-body-start-requires : tie.Need-body-start-requires
-body-start-requires c κs = search needs
+ahead-of-body-requires : tie.Need-ahead-of-body-requires
+ahead-of-body-requires c κs = search needs
+
+add-start : tie.Need-add-start
+add-start c = omega (arith, c .ahead-of-body .ensures .within)
 
 end-at-requires-3 : tie.Need-end-at-requires-3
 end-at-requires-3 c κs = search needs
@@ -54,8 +57,8 @@ returns-3 c =
     let start = c .before .before .before .before .before .before .before .before in
     let lent = start .args .body .now in
     let full = sym (c .before .before .before .before .before .size-of .ensures) ∙ c .before .before .before .before .if1 .left in
-    let found = c .before .before .body-start in
-    steps-as _ _ _ _ _ (said _ lent (c .end-at3 .ensures) ∙ sym (step-ends (start .args .block .now) (found .result) lent (c .before .if3 .taken)) ∙ found .ensures .same lent full)
+    let found = c .before .before .ahead-of-body in
+    steps-as _ _ _ _ _ (said _ lent (c .end-at3 .ensures) ∙ sym (step-ends (start .args .block .now) (start .args .place + found .result) lent (c .before .if3 .taken)) ∙ found .ensures .same lent full)
 
 reach-requires : tie.Need-reach-requires
 reach-requires c κs = search needs
@@ -87,14 +90,14 @@ returns-4 c =
     let start = begun .before .before .before .before .before .before in
     let block = start .args .block .now in
     let lent = start .args .body .now in
-    let place = begun .body-start .result in
+    let place = start .args .place + begun .ahead-of-body .result in
     let full = sym (begun .before .before .before .size-of .ensures) ∙ begun .before .before .if1 .left in
     let within : place < length block = omega (arith, c .before .before .before .before .before .before .before .if3 .left) in
-    let starts = begun .body-start .ensures .starts within in
+    let starts = begun .ahead-of-body .ensures .starts within in
     let from = c .before .before .before .before .before .behind-delimiter .ensures ∙ place-behind-ff block place (omega arith) (behind-delimiter (delimitedAt block place) (getD block place 0) starts) in
     let heard = rw from at (c .before .before .listen .ensures) in
     let same = part-tells block place _ lent full within starts (c .before .before .before .before .before .before .reach .ensures) in
-    steps-as block (start .args .place) lent _ _ (step-heard block place lent within heard same (c .next-of .ensures) refl ∙ begun .body-start .ensures .same lent full)
+    steps-as block (start .args .place) lent _ _ (step-heard block place lent within heard same (c .next-of .ensures) refl ∙ begun .ahead-of-body .ensures .same lent full)
 
 pub step-from-spec : {M : Type 1} → statement M
 step-from-spec =
@@ -105,7 +108,8 @@ step-from-spec =
     returns
     end-at-requires-2
     returns-2
-    body-start-requires
+    ahead-of-body-requires
+    add-start
     end-at-requires-3
     returns-3
     reach-requires
