@@ -87,7 +87,7 @@ rejoins n h =
     let below : n / 2 < 128 = omega arith in
     rw (lt-ltb (n / 2) 128 below) (omega arith)
 
-enters : (count byte : ℕ) → byte < 256 → feedBits count (byte / 2 ^ count) byte ≡ byte
+pub enters : (count byte : ℕ) → byte < 256 → feedBits count (byte / 2 ^ count) byte ≡ byte
 unfolding feedBits
 enters zero byte h = omega arith
 enters (suc count) byte h =
@@ -100,12 +100,15 @@ byte-enters byte h =
     let none : byte / 2 ^ 8 ≡ 0 = omega arith in
     rw none at (enters 8 byte h)
 
+-- what enters a register comes beside what zeros would make of it
+pub beside : (count register number : ℕ) → register < 256 → feedBits count register number ≡ bitXor (feedBits count register 0) (feedBits count 0 number)
+beside count register number h =
+    ap₂ (feedBits count) (sym (xor-zero-r register)) (sym (xor-zero-l number)) ∙ bits-linear count register 0 0 number h (lit< tt)
+
 -- so a byte enters any register beside what a zero byte would make of it
 pub byte-beside : (register byte : ℕ) → register < 256 → byte < 256 → feedByte register byte ≡ bitXor (feedByte register 0) byte
 unfolding feedByte
-byte-beside register byte r b =
-    ap₂ feedByte (sym (xor-zero-r register)) (sym (xor-zero-l byte)) ∙ bits-linear 8 register 0 0 byte r (lit< tt)
-    ∙ ap (λ (n : ℕ). bitXor (feedByte register 0) n) (byte-enters byte b)
+byte-beside register byte r b = beside 8 register byte r ∙ ap (λ (n : ℕ). bitXor (feedByte register 0) n) (byte-enters byte b)
 
 -- what the receiver finds behind some bytes and a last one
 received-last : (bytes : List ℕ) (last : ℕ) → last < 256 → received (bytes ++ (last ∷ [])) ≡ bitXor (checkOf bytes) last

@@ -1,4 +1,7 @@
 pub mod Bits
+pub mod Folding
+pub mod Halves
 pub mod Laws
-pub mod Ninth
 pub mod OneAnswer
+pub mod Slices
+pub mod Wide

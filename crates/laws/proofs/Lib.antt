@@ -1,2 +1,3 @@
 pub mod ByteLists
+pub mod Computed
 pub mod OneAnswer
