@@ -21,8 +21,8 @@ def frame_of(front: bytes) -> bytes:
 
 
 def record_of(time: int, words: str) -> bytes:
-    """A record's time, and the nine bytes behind it: kind, address, serial, status, three of weight."""
-    return time.to_bytes(8, "little") + bytes.fromhex(words) + bytes(3)
+    """A record's time, and the ten bytes behind it: kind, address, serial, status, three of weight, family."""
+    return time.to_bytes(8, "little") + bytes.fromhex(words) + bytes(2)
 
 
 def filled(piece: bytes) -> bytes:
@@ -53,18 +53,20 @@ MIXED_BODIES = [
     body_of(bytes.fromhex("017751020001")),
     body_of(bytes.fromhex("01CC51020001")),
     body_of(bytes.fromhex("01C30A020001")),
+    body_of(bytes.fromhex("01C351020041")),
 ]
 
 BODIES = {"gross weights": filled(body_of(GROSS)), "mixed bodies": filled(b"".join(MIXED_BODIES))}
 
-WEIGHINGS = [record_of(1_754_000_000 + second, "010100000010608401") for second in range(10)]
+WEIGHINGS = [record_of(1_754_000_000 + second, "01010000001060840103") for second in range(10)]
 
 MIXED_RECORDS = [
-    record_of(1_754_000_000, "010100000010608401"),
-    record_of(1_754_000_060, "020065130110804200"),
-    record_of(1_754_000_120, "030000000004000000"),
-    record_of(1_754_000_180, "01FE00000010608401"),  # refusal 11: the address
-    record_of(1_754_000_240, "0101000000106A8401"),  # refusal 11: a digit
+    record_of(1_754_000_000, "01010000001060840103"),
+    record_of(1_754_000_060, "02006513015080420002"),
+    record_of(1_754_000_120, "03000000000400000000"),
+    record_of(1_754_000_180, "01FE0000001060840100"),  # refusal 11: the address
+    record_of(1_754_000_240, "0101000000106A840101"),  # refusal 11: a digit
+    record_of(1_754_000_300, "01010000005060840103"),  # refusal 11: bit 6 in 002
 ]
 
 RECORDS = {"weighings": filled(b"".join(WEIGHINGS)), "mixed records": filled(b"".join(MIXED_RECORDS))}

@@ -1,5 +1,5 @@
 /* The listing once more in plain C: the yardstick that bench/run counts the proved one against. It reads a capture from standard input and
-   writes the listing of replies. */
+   writes the listing of replies, of a line of the family that the argument names (000, 001 or 002; 002 where there is none). */
 #include "reader.h"
 #include "replies.h"
 #include <string.h>
@@ -10,6 +10,7 @@ enum { BLOCK = 65536, LONGEST_LINE = 85 };
 static unsigned char block[BLOCK], page[BLOCK];
 static size_t used;
 static uint64_t lines, weights, refusals;
+static enum family family = OF_002;
 
 static void flush(void) {
     for (size_t done = 0; done < used;) {
@@ -65,6 +66,8 @@ static void weighed(const unsigned char *body, int code, const unsigned char *da
     const char marks[] = {' ', (char)('0' + (data[3] & 7)), ' ', (char)('0' + (data[3] >> 4 & 1)), ' ', (char)('0' + (data[3] >> 3 & 1))};
     memcpy(page + used, marks, sizeof marks);
     used += sizeof marks;
+    if (family == OF_001) text(data[3] & 0x20 ? " scale1" : " scale0");
+    else text(data[3] & 0x20 ? " net" : " gross");
 }
 
 static void told(int number, const unsigned char *body, unsigned kept) {
@@ -72,7 +75,7 @@ static void told(int number, const unsigned char *body, unsigned kept) {
     decimal(++lines);
     unsigned code_at = body[0] == 0 ? 4 : 1;
     const unsigned char *data = body + code_at + 1;
-    if (number == 0) number = judged_reply(body[code_at], data, kept - code_at - 2);
+    if (number == 0) number = judged_reply(family, body[code_at], data, kept - code_at - 2);
     if (number != 0) refused(number);
     else if (body[code_at] == 0xC2 || body[code_at] == 0xC3) weighed(body, body[code_at], data);
     else {
@@ -85,7 +88,8 @@ static void told(int number, const unsigned char *body, unsigned kept) {
     letter('\n');
 }
 
-int main(void) {
+int main(int count, char **words) {
+    if (count > 1) family = OF_000 + (words[1][2] - '0');
     struct reader reader = {0};
     ssize_t got;
     while ((got = read(0, block, sizeof block)) > 0) {

@@ -1,5 +1,6 @@
 /* A poller's loop, with a file in place of a port: the capture that its argument names, or standard input without one, is listed as
- * `bin/quay list` lists it. It holds one block and the reader's 255 bytes, however long the capture is.
+ * `bin/quay list` lists it. The family of its terminals is said by `--family`, and is 002 without it, as there. It holds one block and the reader's
+ * 255 bytes, however long the capture is.
  *
  * What cannot be opened, read or written is said on standard error; then no total line is printed, so that a cut listing never looks whole,
  * and the exit status is 1. */
@@ -18,6 +19,7 @@ enum { BLOCK_SIZE = 65536 };
 
 /* All that is known between two blocks. */
 struct listing {
+    uint8_t family; /* a line has one */
     QuayPlace place;
     uint8_t body[QUAY_BODY_ROOM];
     uint64_t events, weights, refused;
@@ -46,7 +48,8 @@ static bool show(void)
 static bool list_event(struct listing *listing, QuayEvent event)
 {
     uint8_t line[QUAY_LONGEST_LINE];
-    QuayListed listed = quay_list_event(listing->events + 1, event, listing->body, sizeof listing->body, line, sizeof line);
+    QuayListed listed =
+        quay_list_event(listing->events + 1, listing->family, event, listing->body, sizeof listing->body, line, sizeof line);
     if (listed.refusal != QUAY_NOT_REFUSED)
         return complain("the library", "refused to list an event of its own");
     listing->events++;
@@ -104,29 +107,49 @@ static bool list_total(const struct listing *listing)
     return print(line, written.length);
 }
 
-static bool list_capture(int capture, const char *name)
+static bool list_capture(uint8_t family, int capture, const char *name)
 {
-    struct listing listing = {.place = {.phase = QUAY_SEEKING}};
+    struct listing listing = {.family = family, .place = {.phase = QUAY_SEEKING}};
     bool whole = list_all(&listing, capture, name) && list_total(&listing);
     return show() && whole;
 }
 
-static bool list_file(const char *name)
+static bool list_file(uint8_t family, const char *name)
 {
     int capture = open(name, O_RDONLY);
     if (capture < 0)
         return complain(name, strerror(errno));
-    bool whole = list_capture(capture, name);
+    bool whole = list_capture(family, capture, name);
     close(capture);
     return whole;
 }
 
+/* The family of a document's number. No capture is of the plain family, so that one stands for every other word. */
+static uint8_t family_of(const char *document)
+{
+    static const struct {
+        const char *document;
+        uint8_t family;
+    } known[] = {{"000", QUAY_FAMILY_000}, {"001", QUAY_FAMILY_001}, {"002", QUAY_FAMILY_002}};
+    for (size_t each = 0; each < sizeof known / sizeof known[0]; each++) {
+        if (strcmp(known[each].document, document) == 0)
+            return known[each].family;
+    }
+    return QUAY_FAMILY_PLAIN;
+}
+
 int main(int count, char **words)
 {
-    if (count > 2) {
-        fprintf(stderr, "usage: %s [CAPTURE]    lists a capture, or standard input\n", words[0]);
+    uint8_t family = QUAY_FAMILY_002;
+    int next = 1;
+    if (count > 1 && strcmp(words[1], "--family") == 0) {
+        family = count > 2 ? family_of(words[2]) : QUAY_FAMILY_PLAIN;
+        next = 3;
+    }
+    if (family == QUAY_FAMILY_PLAIN || count > next + 1) {
+        fprintf(stderr, "usage: %s [--family 000|001|002] [CAPTURE]    lists a capture, or standard input; without a family it is 002\n", words[0]);
         return 1;
     }
-    bool whole = count == 2 ? list_file(words[1]) : list_capture(STDIN_FILENO, "standard input");
+    bool whole = count > next ? list_file(family, words[next]) : list_capture(family, STDIN_FILENO, "standard input");
     return whole ? 0 : 1;
 }

@@ -52,7 +52,8 @@ enum {
     QUAY_ADDRESS_ILLEGAL = 5, /* a short address outside 01 to FD, or a serial too large */
     QUAY_CODE_UNKNOWN = 6,    /* a code that the table does not have in that role */
     QUAY_LENGTH_WRONG = 7,    /* data of a length that is wrong for the code */
-    QUAY_FIELD_OUTSIDE = 8,   /* a field outside its values; also a number handed in that names no phase, role, kind, or refusal of a line */
+    QUAY_FIELD_OUTSIDE = 8,   /* a field outside its values, as bit 6 of a weight of family 002; also a number handed in that names no phase, role,
+                                 family, kind, or refusal of a line */
     QUAY_ROOM_SHORT = 9,      /* the lent room is shorter than needed */
     QUAY_LOG_LEFT_OVER = 10,  /* 1 to 19 bytes left over in a log */
     QUAY_RECORD_BROKEN = 11   /* a record that breaks a rule */
@@ -65,6 +66,15 @@ enum { QUAY_SEEKING = 0, QUAY_DELIMITED = 1, QUAY_INSIDE = 2, QUAY_HELD = 3 }; /
 enum { QUAY_EVENT_NOTHING = 0, QUAY_EVENT_FRAME = 1, QUAY_EVENT_REFUSED = 2 }; /* QuayEvent.kind */
 
 enum { QUAY_REQUEST = 0, QUAY_REPLY = 1 }; /* role */
+
+/* family: that of the document which describes the terminals of a line. The caller says it. It tells what bits 6 and 5 of CON mean:
+ *  - 000: bit 6 a key code was entered, bit 5 net mode.
+ *  - 001: bit 6 an event, bit 5 the current scale number, 0 or 1.
+ *  - 002: bit 6 is reserved and must be 0: a weight that has it set is refused by 8, a record by 11. Bit 5 net mode.
+ *  - plain: a record from before there were families. Neither bit has a meaning, and neither is judged.
+ * Any other number is refused by 8, in a record by 11. Plain is 0. So an initialiser that leaves `family` out says plain, and bit 6 of a terminal of
+ * 002 is not judged then. Say the family of the line wherever a struct or a call has one. */
+enum { QUAY_FAMILY_PLAIN = 0, QUAY_FAMILY_000 = 1, QUAY_FAMILY_001 = 2, QUAY_FAMILY_002 = 3 };
 
 enum { QUAY_GROSS = 1, QUAY_NET = 2 }; /* QuayWhat.load; 0 where no weight is said */
 
@@ -110,21 +120,24 @@ typedef struct QuayWent {
     uint8_t refusal; /* of the call, not of the line */
 } QuayWent;
 
-/* The four bytes of a weight as the wire has them. Four times FF is no weight: every use of it is refused. */
+/* The four bytes of a weight as the wire has them, and the family of the terminal that said them. Five times FF is no weight: every use of it is
+ * refused. */
 typedef struct QuayWeight {
     uint8_t w0, w1, w2, con;
+    uint8_t family; /* left out of an initialiser it is QUAY_FAMILY_PLAIN */
 } QuayWeight;
 
-/* What a terminal shows. The marks are 0 or 1. If refused, the number and the marks are all ones and the point is 0: number and point
+/* What a terminal shows. The marks are 0 or 1. If refused, the number, the marks and the family are all ones and the point is 0: number and point
  * together are far above any weight. */
 typedef struct QuayReading {
     uint32_t number; /* 0 to 999,999 */
     uint8_t point;   /* digits after the point, 0 to 7 */
     uint8_t minus;
-    uint8_t bit6;
-    uint8_t bit5;
+    uint8_t bit6;    /* what it means, the family says */
+    uint8_t bit5;    /* what it means, the family says */
     uint8_t settled;
     uint8_t overload;
+    uint8_t family;
     uint8_t refusal;
 } QuayReading;
 
@@ -180,6 +193,7 @@ typedef struct QuayRecord {
     uint8_t address;
     uint8_t status;     /* CON of a weight; for QUAY_RECORD_REFUSED the refusal's number, 1 to 8 (5 in logs from before) */
     uint8_t w0, w1, w2; /* FF unless the kind is 1 or 2 */
+    uint8_t family;     /* of the terminal; QUAY_FAMILY_PLAIN in a record from before there were families, and in kind 3; FF in kind 0 */
     uint8_t refusal;
 } QuayRecord;
 
@@ -208,17 +222,19 @@ QuayWent quay_listen(QuayPlace place, const uint8_t *block, size_t block_length,
 QuayWritten quay_write_frame(uint8_t short_address, uint32_t serial, uint8_t code, const uint8_t *data, size_t data_length, uint8_t *room,
                              size_t room_length);
 
-/* Writes the frame of a message in a role, from the data of the paper's table.
- * Refusals: 8 for a role that does not exist; then 5, 6, 7, 8 (a field of the data), 2, 9, in this order. */
-QuayWritten quay_write_message(uint8_t role, uint8_t short_address, uint32_t serial, uint8_t code, const uint8_t *data, size_t data_length,
-                               uint8_t *room, size_t room_length);
+/* Writes the frame of a message in a role, from the data of the paper's table, for a line of a family.
+ * Refusals: 8 for a role or a family that does not exist; then 5, 6, 7, 8 (a field of the data, a weight's by its family), 2, 9, in this order. */
+QuayWritten quay_write_message(uint8_t role, uint8_t family, uint8_t short_address, uint32_t serial, uint8_t code, const uint8_t *data,
+                               size_t data_length, uint8_t *room, size_t room_length);
 
-/* Reads a body (address, code, data, check; no delimiters) in a role. It tests the check itself, also for a body that quay_listen handed out.
- * Refusals: 8 for a role that does not exist; then 2 (over 255 bytes), 1, 4, 5, 6, 7, 8, in this order. If refused, the number and
- * `on` are all ones, the weight is four times FF and every other field is 0. */
-QuayMessage quay_read_message(uint8_t role, const uint8_t *body, size_t body_length);
+/* Reads a body (address, code, data, check; no delimiters) in a role, of a line of a family. A weight that it says carries that family. It tests
+ * the check itself, also for a body that quay_listen handed out.
+ * Refusals: 8 for a role or a family that does not exist; then 2 (over 255 bytes), 1, 4, 5, 6, 7, 8, in this order. If refused, the number and
+ * `on` are all ones, the weight is five times FF and every other field is 0. */
+QuayMessage quay_read_message(uint8_t role, uint8_t family, const uint8_t *body, size_t body_length);
 
-/* ---- weights. Refusal: 8 for a half of W0, W1 or W2 that is no decimal digit. CON is any byte. */
+/* ---- weights. Refusal: 8 for a half of W0, W1 or W2 that is no decimal digit, for a family that does not exist, and for bit 6 set in family 002.
+ * Otherwise CON is any byte. */
 
 /* The reading that four bytes show. */
 QuayReading quay_read_weight(QuayWeight weight);
@@ -226,7 +242,7 @@ QuayReading quay_read_weight(QuayWeight weight);
 /* The value in tenths of a milligram, -9,999,990,000,000 to 9,999,990,000,000. */
 QuayValue quay_value(QuayWeight weight);
 
-/* Gross less net in tenths of a milligram. It may be negative. It is refused where either weight is refused. */
+/* Gross less net in tenths of a milligram. It may be negative. It is refused where either weight is refused. The two may be of different families. */
 QuayValue quay_difference(QuayWeight gross, QuayWeight net);
 
 /* The value in kilograms, rounded once. A weight of minus zero gives plus zero. */
@@ -239,27 +255,30 @@ QuayKilograms quay_kilograms(QuayWeight weight);
 QuayWritten quay_write_record(QuayRecord item, uint8_t *room, size_t room_length);
 
 /* Reads a record of 20 bytes. Refusal: 11, also for more bytes or fewer. A refusal 5 in a log from before came from a
- * terminal at A0 to FD, when 9F was the highest address. */
+ * terminal at A0 to FD, when 9F was the highest address. A record from before there were families is plain. */
 QuayRecord quay_read_record(const uint8_t *bytes, size_t bytes_length);
 
 /* The record at a byte place of a log. At or past its end: kind 0 and no refusal.
  * Refusals: 10 (1 to 19 bytes left over), 11, in this order. */
 QuayStepped quay_step(const uint8_t *log, size_t log_length, size_t place);
 
-/* The record that an event makes at a time, in the role in which the line is read. It notes a gross or net reply, or a refusal 1 to 8 of the line
- * or of its message. Where the event makes no record, the answer is kind 0 and no refusal. The body of a frame is the first event.kept of the lent
- * bytes (all of them where they are fewer). It is judged again, check and all.
- * Refusals: 8 for a role or a kind of event that does not exist, and for a number of its refusal that is not 1 to 8. A line meets no others. */
-QuayRecord quay_record_heard(uint64_t time, uint8_t role, QuayEvent event, const uint8_t *body, size_t body_length);
+/* The record that an event makes at a time, in the role in which the line is read, and of its family. It notes a gross or net reply with that family,
+ * or a refusal 1 to 8 of the line or of its message, without one. Where the event makes no record, the answer is kind 0 and no refusal. The body of
+ * a frame is the first event.kept of the lent bytes (all of them where they are fewer). It is judged again, check and all.
+ * Refusals: 8 for a role, a family or a kind of event that does not exist, and for a number of its refusal that is not 1 to 8. A line meets no
+ * others. */
+QuayRecord quay_record_heard(uint64_t time, uint8_t role, uint8_t family, QuayEvent event, const uint8_t *body, size_t body_length);
 
 /* ---- the listing */
 
-/* Writes the listing's line of an event, with its newline, as the event of that number. The event is read as a reply. Where there was no event
- * there is no line: length 0, entry 0, no refusal. The body of a frame is the first event.kept of the lent bytes (all of them where they are fewer).
- * It is judged again, check and all. Other bytes than those that were heard list as the refusal they earn.
- * Refusals: 8 for a kind of event that does not exist, or a number of its refusal that is not 1 to 8 (then entry is 0); 9 (then entry is as if the
- * line had fitted), in this order. */
-QuayListed quay_list_event(uint64_t number, QuayEvent event, const uint8_t *body, size_t body_length, uint8_t *room, size_t room_length);
+/* Writes the listing's line of an event, with its newline, as the event of that number. The event is read as a reply of a line of a family. The last
+ * word of a weight's line is what bit 5 says: `net` or `gross` (000 and 002), `scale0` or `scale1` (001). A plain one has no such word. Where there
+ * was no event there is no line: length 0, entry 0, no refusal. The body of a frame is the first event.kept of the lent bytes (all of them where they
+ * are fewer). It is judged again, check and all. Other bytes than those that were heard list as the refusal they earn.
+ * Refusals: 8 for a family or a kind of event that does not exist, or a number of its refusal that is not 1 to 8 (then entry is 0); 9 (then entry is
+ * as if the line had fitted), in this order. */
+QuayListed quay_list_event(uint64_t number, uint8_t family, QuayEvent event, const uint8_t *body, size_t body_length, uint8_t *room,
+                           size_t room_length);
 
 /* Writes the total line: all events, weights and refusals of the listing. Refusal: 9. */
 QuayWritten quay_list_total(uint64_t total, uint64_t weights, uint64_t refused, uint8_t *room, size_t room_length);
@@ -282,21 +301,22 @@ QUAY_SIZE(size_t, 8); QUAY_SIZE(double, 8);
 QUAY_SIZE(QuayPlace, 24); QUAY_AT(QuayPlace, wire, 0); QUAY_AT(QuayPlace, kept, 8); QUAY_AT(QuayPlace, phase, 16);
 QUAY_SIZE(QuayEvent, 24); QUAY_AT(QuayEvent, wire, 0); QUAY_AT(QuayEvent, kept, 8); QUAY_AT(QuayEvent, kind, 16); QUAY_AT(QuayEvent, refusal, 17);
 QUAY_SIZE(QuayWent, 64); QUAY_AT(QuayWent, place, 0); QUAY_AT(QuayWent, event, 24); QUAY_AT(QuayWent, used, 48); QUAY_AT(QuayWent, refusal, 56);
-QUAY_SIZE(QuayWeight, 4); QUAY_AT(QuayWeight, w0, 0); QUAY_AT(QuayWeight, w1, 1); QUAY_AT(QuayWeight, w2, 2); QUAY_AT(QuayWeight, con, 3);
+QUAY_SIZE(QuayWeight, 5); QUAY_AT(QuayWeight, w0, 0); QUAY_AT(QuayWeight, w1, 1); QUAY_AT(QuayWeight, w2, 2); QUAY_AT(QuayWeight, con, 3);
+    QUAY_AT(QuayWeight, family, 4);
 QUAY_SIZE(QuayReading, 12); QUAY_AT(QuayReading, number, 0); QUAY_AT(QuayReading, point, 4); QUAY_AT(QuayReading, minus, 5);
     QUAY_AT(QuayReading, bit6, 6); QUAY_AT(QuayReading, bit5, 7); QUAY_AT(QuayReading, settled, 8); QUAY_AT(QuayReading, overload, 9);
-    QUAY_AT(QuayReading, refusal, 10);
+    QUAY_AT(QuayReading, family, 10); QUAY_AT(QuayReading, refusal, 11);
 QUAY_SIZE(QuayValue, 16); QUAY_AT(QuayValue, value, 0); QUAY_AT(QuayValue, refusal, 8);
 QUAY_SIZE(QuayKilograms, 16); QUAY_AT(QuayKilograms, kilograms, 0); QUAY_AT(QuayKilograms, refusal, 8);
 QUAY_SIZE(QuayWritten, 16); QUAY_AT(QuayWritten, length, 0); QUAY_AT(QuayWritten, refusal, 8);
 QUAY_SIZE(QuayListed, 16); QUAY_AT(QuayListed, length, 0); QUAY_AT(QuayListed, entry, 8); QUAY_AT(QuayListed, refusal, 9);
 QUAY_SIZE(QuayWhat, 40); QUAY_AT(QuayWhat, number, 0); QUAY_AT(QuayWhat, from, 8); QUAY_AT(QuayWhat, to, 16); QUAY_AT(QuayWhat, on, 24);
-    QUAY_AT(QuayWhat, weight, 28); QUAY_AT(QuayWhat, load, 32); QUAY_AT(QuayWhat, says, 33);
+    QUAY_AT(QuayWhat, weight, 28); QUAY_AT(QuayWhat, load, 33); QUAY_AT(QuayWhat, says, 34);
 QUAY_SIZE(QuayMessage, 64); QUAY_AT(QuayMessage, what, 0); QUAY_AT(QuayMessage, from, 40); QUAY_AT(QuayMessage, to, 48);
     QUAY_AT(QuayMessage, serial, 56); QUAY_AT(QuayMessage, short_address, 60); QUAY_AT(QuayMessage, code, 61); QUAY_AT(QuayMessage, refusal, 62);
 QUAY_SIZE(QuayRecord, 24); QUAY_AT(QuayRecord, time, 0); QUAY_AT(QuayRecord, serial, 8); QUAY_AT(QuayRecord, kind, 12);
     QUAY_AT(QuayRecord, address, 13); QUAY_AT(QuayRecord, status, 14); QUAY_AT(QuayRecord, w0, 15); QUAY_AT(QuayRecord, w1, 16);
-    QUAY_AT(QuayRecord, w2, 17); QUAY_AT(QuayRecord, refusal, 18);
+    QUAY_AT(QuayRecord, w2, 17); QUAY_AT(QuayRecord, family, 18); QUAY_AT(QuayRecord, refusal, 19);
 QUAY_SIZE(QuayStepped, 32); QUAY_AT(QuayStepped, item, 0); QUAY_AT(QuayStepped, next, 24);
 
 #undef QUAY_HOLDS

@@ -1,9 +1,9 @@
 #!/usr/bin/env python3
 """Polls a captured line from a file instead of a port: lists what is heard, and notes weighings and refusals in a log.
 
-The listing is that of `bin/quay list`. A file has no clock, so the log's times are made up: event 1 has the start time, and each event
-after it a second more. If something cannot be opened, read or written, standard error says so. Then there is no total line, and the exit
-status is 1. A log that already exists is not touched.
+The listing is that of `bin/quay list`. As there, a line whose family is not said is of family 002. A file has no clock, so the log's times
+are made up: event 1 has the start time, and each event after it a second more. If something cannot be opened, read or written, standard
+error says so. Then there is no total line, and the exit status is 1. A log that already exists is not touched.
 """
 from __future__ import annotations
 
@@ -17,6 +17,9 @@ import quay
 # As many bytes as a port may hand over at once. Any other number gives the same listing.
 BLOCK_BYTES = 64
 START_TIME = 1_785_542_400  # 1 August 2026, 00:00 UTC, in seconds since 1970
+# By the document's number. The plain family is that of old records, and no line is of it.
+FAMILIES = {family.word: family for family in quay.Family if family is not quay.Family.PLAIN}
+FAMILY_NOT_SAID = quay.Family.OF_002
 
 
 class Poll:
@@ -48,9 +51,9 @@ class Poll:
         sys.stdout.flush()
 
 
-def poll(capture: str, log: Optional[str]) -> None:
+def poll(capture: str, family: quay.Family, log: Optional[str]) -> None:
     quay.load_library()
-    reader = quay.Reader()
+    reader = quay.Reader(family)
     with contextlib.ExitStack() as opened:
         line = opened.enter_context(open(capture, 'rb'))
         polled = Poll(opened.enter_context(open(log, 'xb')) if log is not None else None)
@@ -65,11 +68,13 @@ def poll(capture: str, log: Optional[str]) -> None:
 def main(arguments: List[str]) -> int:
     parser = argparse.ArgumentParser(description=__doc__.split('\n')[0])
     parser.add_argument('capture', help='the captured bytes of a line')
+    parser.add_argument('--family', choices=sorted(FAMILIES), default=FAMILY_NOT_SAID.word,
+                        help="the document that describes the line's terminals; %(default)s if it is not said")
     parser.add_argument('--log', metavar='FILE', help='also write a log of the weighings and refusals heard, with times made by '
                         f'counting: {START_TIME} seconds for event 1, a second more for each event after it')
     chosen = parser.parse_args(arguments)
     try:
-        poll(chosen.capture, chosen.log)
+        poll(chosen.capture, FAMILIES[chosen.family], chosen.log)
     except (OSError, quay.LibraryNotLoaded) as error:
         print(f'example: {error}', file=sys.stderr)
         return 1

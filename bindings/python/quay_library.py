@@ -17,6 +17,9 @@ LIBRARY_NAME = 'libquay.so'
 LIBRARY_VARIABLE = 'QUAY_LIBRARY'
 MACHINES = ('x86_64', 'AMD64')
 
+# The number of a family that is not plain: plain is 0, as is what nobody wrote.
+SOME_FAMILY = 2
+
 HIGHEST_BYTE = 2**8 - 1
 HIGHEST_COUNT = 2**64 - 1
 
@@ -44,14 +47,15 @@ class QuayWritten(ctypes.Structure):
 
 
 class QuayWeight(ctypes.Structure):
-    """The four bytes of a weight. Four times FF is no weight: every use is refused by 8."""
-    _fields_ = [('w0', c_uint8), ('w1', c_uint8), ('w2', c_uint8), ('con', c_uint8)]
+    """The four bytes of a weight, and the number of its family. Five times FF is no weight: every use is refused by 8. A family that is left
+    out is 0, which is plain."""
+    _fields_ = [('w0', c_uint8), ('w1', c_uint8), ('w2', c_uint8), ('con', c_uint8), ('family', c_uint8)]
 
 
 class QuayReading(ctypes.Structure):
-    """What a terminal shows. If refused, every other field is all ones."""
+    """What a terminal shows. If refused, the point is 0 and every other field is all ones."""
     _fields_ = [('number', c_uint32), ('point', c_uint8), ('minus', c_uint8), ('bit6', c_uint8), ('bit5', c_uint8),
-                ('settled', c_uint8), ('overload', c_uint8), ('refusal', c_uint8)]
+                ('settled', c_uint8), ('overload', c_uint8), ('family', c_uint8), ('refusal', c_uint8)]
 
 
 class QuayValue(ctypes.Structure):
@@ -77,9 +81,10 @@ class QuayMessage(ctypes.Structure):
 
 
 class QuayRecord(ctypes.Structure):
-    """A record of a log. Kind 0 is no record: if `refusal` is not 0 the record was refused, otherwise there was none."""
+    """A record of a log. Kind 0 is no record: if `refusal` is not 0 the record was refused, otherwise there was none. The family is 0 in a
+    record from before there were families, and in kind 3."""
     _fields_ = [('time', c_uint64), ('serial', c_uint32), ('kind', c_uint8), ('address', c_uint8), ('status', c_uint8),
-                ('w0', c_uint8), ('w1', c_uint8), ('w2', c_uint8), ('refusal', c_uint8)]
+                ('w0', c_uint8), ('w1', c_uint8), ('w2', c_uint8), ('family', c_uint8), ('refusal', c_uint8)]
 
 
 class QuayStepped(ctypes.Structure):
@@ -99,14 +104,15 @@ LAYOUT: Dict[Type[ctypes.Structure], Tuple[int, Dict[str, int]]] = {
     QuayEvent: (24, {'wire': 0, 'kept': 8, 'kind': 16, 'refusal': 17}),
     QuayWent: (64, {'place': 0, 'event': 24, 'used': 48, 'refusal': 56}),
     QuayWritten: (16, {'length': 0, 'refusal': 8}),
-    QuayWeight: (4, {'w0': 0, 'w1': 1, 'w2': 2, 'con': 3}),
-    QuayReading: (12, {'number': 0, 'point': 4, 'minus': 5, 'bit6': 6, 'bit5': 7, 'settled': 8, 'overload': 9, 'refusal': 10}),
+    QuayWeight: (5, {'w0': 0, 'w1': 1, 'w2': 2, 'con': 3, 'family': 4}),
+    QuayReading: (12, {
+        'number': 0, 'point': 4, 'minus': 5, 'bit6': 6, 'bit5': 7, 'settled': 8, 'overload': 9, 'family': 10, 'refusal': 11}),
     QuayValue: (16, {'value': 0, 'refusal': 8}),
     QuayKilograms: (16, {'kilograms': 0, 'refusal': 8}),
-    QuayWhat: (40, {'number': 0, 'from_': 8, 'to': 16, 'on': 24, 'weight': 28, 'load': 32, 'says': 33}),
+    QuayWhat: (40, {'number': 0, 'from_': 8, 'to': 16, 'on': 24, 'weight': 28, 'load': 33, 'says': 34}),
     QuayMessage: (64, {'what': 0, 'from_': 40, 'to': 48, 'serial': 56, 'short': 60, 'code': 61, 'refusal': 62}),
     QuayRecord: (24, {
-        'time': 0, 'serial': 8, 'kind': 12, 'address': 13, 'status': 14, 'w0': 15, 'w1': 16, 'w2': 17, 'refusal': 18}),
+        'time': 0, 'serial': 8, 'kind': 12, 'address': 13, 'status': 14, 'w0': 15, 'w1': 16, 'w2': 17, 'family': 18, 'refusal': 19}),
     QuayStepped: (32, {'item': 0, 'next': 24}),
     QuayListed: (16, {'length': 0, 'entry': 8, 'refusal': 9}),
 }
@@ -118,8 +124,8 @@ LENT = [c_void_p, c_size_t]
 FUNCTIONS: Dict[str, Tuple[Type[ctypes.Structure], list]] = {
     'quay_listen': (QuayWent, [QuayPlace, *LENT, c_void_p]),
     'quay_write_frame': (QuayWritten, [c_uint8, c_uint32, c_uint8, *LENT, *LENT]),
-    'quay_write_message': (QuayWritten, [c_uint8, c_uint8, c_uint32, c_uint8, *LENT, *LENT]),
-    'quay_read_message': (QuayMessage, [c_uint8, *LENT]),
+    'quay_write_message': (QuayWritten, [c_uint8, c_uint8, c_uint8, c_uint32, c_uint8, *LENT, *LENT]),
+    'quay_read_message': (QuayMessage, [c_uint8, c_uint8, *LENT]),
     'quay_read_weight': (QuayReading, [QuayWeight]),
     'quay_value': (QuayValue, [QuayWeight]),
     'quay_difference': (QuayValue, [QuayWeight, QuayWeight]),
@@ -127,8 +133,8 @@ FUNCTIONS: Dict[str, Tuple[Type[ctypes.Structure], list]] = {
     'quay_write_record': (QuayWritten, [QuayRecord, *LENT]),
     'quay_read_record': (QuayRecord, [*LENT]),
     'quay_step': (QuayStepped, [*LENT, c_size_t]),
-    'quay_record_heard': (QuayRecord, [c_uint64, c_uint8, QuayEvent, *LENT]),
-    'quay_list_event': (QuayListed, [c_uint64, QuayEvent, *LENT, *LENT]),
+    'quay_record_heard': (QuayRecord, [c_uint64, c_uint8, c_uint8, QuayEvent, *LENT]),
+    'quay_list_event': (QuayListed, [c_uint64, c_uint8, QuayEvent, *LENT, *LENT]),
     'quay_list_total': (QuayWritten, [c_uint64, c_uint64, c_uint64, *LENT]),
 }
 
@@ -165,6 +171,14 @@ def _declare(loaded: ctypes.CDLL, path: str) -> None:
         function.argtypes = arguments
 
 
+def _check_version(loaded: Any, path: str) -> None:
+    """A library from before there were families has the same functions, with other arguments and structs: a refusal would not be seen. It does
+    not tell a family back."""
+    told = loaded.quay_read_weight(QuayWeight(family=SOME_FAMILY))
+    if (told.family, told.refusal) != (SOME_FAMILY, 0):
+        raise _not_loaded(path, 'it does not know the families of terminals, so it is not this version of the quay library')
+
+
 _loaded: Optional[ctypes.CDLL] = None
 
 
@@ -182,6 +196,7 @@ def load_library(path: Optional[Union[str, os.PathLike]] = None) -> ctypes.CDLL:
     except OSError as error:
         raise _not_loaded(chosen, error) from error
     _declare(loaded, chosen)
+    _check_version(loaded, chosen)
     _loaded = loaded
     return loaded
 

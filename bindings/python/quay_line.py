@@ -6,6 +6,7 @@ from dataclasses import dataclass
 from enum import IntEnum
 from typing import Iterator, List, Tuple, Union
 
+from quay_family import Family
 from quay_library import (BODY_BYTES, HIGHEST_BYTE, HIGHEST_COUNT, Bytes, QuayEvent, QuayPlace, address_of, as_bytes, library,
                           whole_number)
 from quay_refusal import accepted, meaning_of
@@ -20,20 +21,22 @@ REFUSAL_KIND = 2
 @dataclass(frozen=True)
 class Frame:
     """A frame was heard. `wire` is the place on the wire: bytes since the reader started. `kept` is the place in the body: how many
-    bytes the body has. `body` has those bytes."""
+    bytes the body has. `body` has those bytes. `family` is that of the line on which it was heard: its body is read by it."""
     wire: int
     kept: int
     body: bytes
+    family: Family
 
-    def crossing(self) -> Tuple[QuayEvent, bytes]:
-        """The event and its body as the library takes them."""
+    def crossing(self) -> Tuple[Family, QuayEvent, bytes]:
+        """The family, the event and its body as the library takes them."""
         kept = whole_number('kept', self.kept, HIGHEST_COUNT)
-        return QuayEvent(whole_number('wire', self.wire, HIGHEST_COUNT), kept, FRAME_KIND, 0), as_bytes(self.body)
+        event = QuayEvent(whole_number('wire', self.wire, HIGHEST_COUNT), kept, FRAME_KIND, 0)
+        return Family(self.family), event, as_bytes(self.body)
 
 
 @dataclass(frozen=True)
 class LineRefusal:
-    """A refusal met on the line: its number, and both places. It is an event, not a weight."""
+    """A refusal met on the line: its number, and both places. It is an event, not a weight. It has no family: it is the same in each."""
     number: int
     wire: int
     kept: int
@@ -43,10 +46,11 @@ class LineRefusal:
         """What the number means, in the paper's words."""
         return meaning_of(self.number)
 
-    def crossing(self) -> Tuple[QuayEvent, bytes]:
-        """The event as the library takes it. It has no body."""
+    def crossing(self) -> Tuple[Family, QuayEvent, bytes]:
+        """The event as the library takes it. It has no body, so no family reads anything."""
         wire, kept = whole_number('wire', self.wire, HIGHEST_COUNT), whole_number('kept', self.kept, HIGHEST_COUNT)
-        return QuayEvent(wire, kept, REFUSAL_KIND, whole_number('number', self.number, HIGHEST_BYTE)), b''
+        event = QuayEvent(wire, kept, REFUSAL_KIND, whole_number('number', self.number, HIGHEST_BYTE))
+        return Family.PLAIN, event, b''
 
 
 Event = Union[Frame, LineRefusal]
@@ -61,18 +65,28 @@ class Phase(IntEnum):
 
 
 class Reader:
-    """Hears a line, block by block. However the bytes are cut into blocks, the events are the same.
+    """Hears a line of terminals of one family, block by block. However the bytes are cut into blocks, the events are the same. The family is
+    said here, once for the line, and each frame carries it.
 
-    >>> reader = Reader()
+    >>> reader = Reader(Family.OF_002)
     >>> list(reader.feed(bytes.fromhex('ff 01 c3 e3')))
     []
-    >>> list(reader.feed(bytes.fromhex('ff ff 01 ff 02')))
-    [Frame(wire=6, kept=3, body=b'\\x01\\xc3\\xe3'), LineRefusal(number=3, wire=9, kept=1)]
+    >>> frame, refusal = reader.feed(bytes.fromhex('ff ff 01 ff 02'))
+    >>> frame
+    Frame(wire=6, kept=3, body=b'\\x01\\xc3\\xe3', family=<Family.OF_002: 3>)
+    >>> refusal
+    LineRefusal(number=3, wire=9, kept=1)
     """
 
-    def __init__(self) -> None:
+    def __init__(self, family: Family) -> None:
+        self._family = Family(family)
         self._place = QuayPlace()
         self._body = ctypes.create_string_buffer(BODY_BYTES)
+
+    @property
+    def family(self) -> Family:
+        """The family of the line's terminals."""
+        return self._family
 
     @property
     def wire(self) -> int:
@@ -107,7 +121,7 @@ class Reader:
 
     def _told(self, event: QuayEvent) -> Event:
         if event.kind == FRAME_KIND:
-            return Frame(event.wire, event.kept, self._body.raw[:event.kept])
+            return Frame(event.wire, event.kept, self._body.raw[:event.kept], self._family)
         return LineRefusal(event.refusal, event.wire, event.kept)
 
 
@@ -127,18 +141,18 @@ class Listed:
 
 
 def list_event(number: int, event: Event) -> Listed:
-    """The line of an event, as the event of that number. The event is read as a reply. The body of a frame is judged again, check and
-    all: bytes that nobody heard list as the refusal they earn.
+    """The line of an event, as the event of that number. The event is read as a reply, by its family. The body of a frame is judged again,
+    check and all: bytes that nobody heard list as the refusal they earn.
 
-    >>> list_event(2, Frame(wire=10, kept=7, body=bytes.fromhex('01c20500009132')))
-    Listed(line='2 weight net 1 - 000005 1 1 0\\n', entry=<Entry.WEIGHT: 1>)
+    >>> list_event(2, Frame(wire=10, kept=7, body=bytes.fromhex('01c20500009132'), family=Family.OF_002))
+    Listed(line='2 weight net 1 - 000005 1 1 0 gross\\n', entry=<Entry.WEIGHT: 1>)
     >>> list_event(3, LineRefusal(4, wire=16, kept=3)).line
     '3 refused 4\\n'
     """
     number = whole_number('number', number, HIGHEST_COUNT)
-    crossing, body = event.crossing()
+    family, crossing, body = event.crossing()
     room = ctypes.create_string_buffer(LINE_ROOM)
-    listed = accepted(library().quay_list_event(number, crossing, body, len(body), room, LINE_ROOM))
+    listed = accepted(library().quay_list_event(number, family, crossing, body, len(body), room, LINE_ROOM))
     return Listed(room.raw[:listed.length].decode('ascii'), Entry(listed.entry))
 
 

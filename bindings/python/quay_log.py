@@ -7,6 +7,7 @@ from dataclasses import dataclass
 from fractions import Fraction
 from typing import Dict, List, Optional, Tuple, Union
 
+from quay_family import Family
 from quay_library import HIGHEST_BYTE, HIGHEST_COUNT, Bytes, QuayRecord, as_bytes, library, whole_number
 from quay_line import Event
 from quay_message import Address, Load, Role, address_from
@@ -19,13 +20,15 @@ REFUSAL_RECORD = 3
 # A number that no refusal has. A record that carries it is refused by 11.
 NO_REFUSAL = 0
 
-# The weight bytes of a record that is no weighing.
+# The weight bytes of a record that is no weighing, and its family: byte 17 is 0 there.
 NO_DIGITS = (255, 255, 255)
+NO_FAMILY = 0
 
 
 @dataclass(frozen=True)
 class Weighing:
-    """A gross or net reply: kind 1 or 2. `time` is in seconds, as the caller gives it."""
+    """A gross or net reply: kind 1 or 2. `time` is in seconds, as the caller gives it. The weight carries the family; in a record from
+    before there were families it is `Family.PLAIN`."""
     time: int
     load: Load
     address: Address
@@ -35,7 +38,7 @@ class Weighing:
         """The record as the library takes it."""
         short, serial = self.address.crossing()
         w0, w1, w2, con = bytes(self.weight)
-        return QuayRecord(_seconds(self.time), serial, Load(self.load), short, con, w0, w1, w2, 0)
+        return QuayRecord(_seconds(self.time), serial, Load(self.load), short, con, w0, w1, w2, self.weight.family, 0)
 
 
 @dataclass(frozen=True)
@@ -48,7 +51,7 @@ class RefusalMet:
         """The record as the library takes it. No refusal has a number that is not even a byte."""
         number = operator.index(self.number)
         status = number if 0 <= number <= HIGHEST_BYTE else NO_REFUSAL
-        return QuayRecord(_seconds(self.time), 0, REFUSAL_RECORD, 0, status, *NO_DIGITS, 0)
+        return QuayRecord(_seconds(self.time), 0, REFUSAL_RECORD, 0, status, *NO_DIGITS, NO_FAMILY, 0)
 
 
 Record = Union[Weighing, RefusalMet]
@@ -64,19 +67,19 @@ def _told(item: QuayRecord) -> Record:
     """A record that the library told, kind 1 to 3."""
     if item.kind == REFUSAL_RECORD:
         return RefusalMet(item.time, item.status)
-    weight = Weight(item.w0, item.w1, item.w2, item.status)
+    weight = Weight(item.w0, item.w1, item.w2, item.status, Family(item.family))
     return Weighing(item.time, Load(item.kind), address_from(item.address, item.serial), weight)
 
 
 def record_heard(time: int, event: Event, role: Role = Role.REPLY) -> Optional[Record]:
-    """The record that an event makes at a time, its body read in a role. None if the event makes no record.
+    """The record that an event makes at a time, its body read in a role and by its family. None if the event makes no record.
 
     >>> from quay_line import LineRefusal
     >>> record_heard(1000, LineRefusal(4, wire=6, kept=3))
     RefusalMet(time=1000, number=4)
     """
-    crossing, body = event.crossing()
-    item = accepted(library().quay_record_heard(_seconds(time), Role(role), crossing, body, len(body)))
+    family, crossing, body = event.crossing()
+    item = accepted(library().quay_record_heard(_seconds(time), Role(role), family, crossing, body, len(body)))
     return _told(item) if item.kind else None
 
 
@@ -170,7 +173,9 @@ def row_of(record: Record) -> Row:
     """A record as a row. Every row has the same keys. What a record does not have is None, which pandas shows as missing. For a
     refusal, everything but `time`, `kind` and `refusal` is None. So an unread weight is never a number.
 
-    `value` is in tenths of a milligram; `sign`, `digits` and `point` are as the terminal shows them.
+    `value` is in tenths of a milligram; `sign`, `digits` and `point` are as the terminal shows them. `family` is `000`, `001` or `002`, or
+    `plain` in a record from before there were families. `mode` is what bit 5 says in that family: `net`, `gross`, `scale0` or `scale1`. A
+    plain record has none, and then it is None, not False.
     """
     if isinstance(record, RefusalMet):
         return _row(record.time, 'refusal', refusal=record.number)
@@ -180,15 +185,17 @@ def row_of(record: Record) -> Row:
         address=record.address.short, serial=record.address.serial,
         value=record.weight.value, kilograms=record.weight.kilograms, kilograms_exact=record.weight.kilograms_exact,
         sign='-' if reading.minus else '+', digits=f'{reading.number:06}', point=reading.point,
-        settled=reading.settled, overload=reading.overload)
+        settled=reading.settled, overload=reading.overload, family=reading.family.word, mode=reading.mode)
 
 
 def _row(
         time: int, kind: str, *, refusal: Optional[int] = None, address: Optional[int] = None, serial: Optional[int] = None,
         value: Optional[int] = None, kilograms: Optional[float] = None, kilograms_exact: Optional[Fraction] = None,
         sign: Optional[str] = None, digits: Optional[str] = None, point: Optional[int] = None,
-        settled: Optional[bool] = None, overload: Optional[bool] = None) -> Row:
+        settled: Optional[bool] = None, overload: Optional[bool] = None, family: Optional[str] = None,
+        mode: Optional[str] = None) -> Row:
     return {
         'time': time, 'kind': kind, 'refusal': refusal, 'address': address, 'serial': serial,
         'value': value, 'kilograms': kilograms, 'kilograms_exact': kilograms_exact,
-        'sign': sign, 'digits': digits, 'point': point, 'settled': settled, 'overload': overload}
+        'sign': sign, 'digits': digits, 'point': point, 'settled': settled, 'overload': overload,
+        'family': family, 'mode': mode}

@@ -7,7 +7,8 @@ from dataclasses import dataclass
 from enum import IntEnum
 from typing import Any, Optional, Tuple
 
-from quay_library import BODY_BYTES, HIGHEST_BYTE, Bytes, as_bytes, library, whole_number
+from quay_family import Family
+from quay_library import BODY_BYTES, HIGHEST_BYTE, Bytes, QuayWeight, as_bytes, library, whole_number
 from quay_refusal import accepted
 from quay_weight import Weight
 
@@ -97,17 +98,23 @@ class Message:
     text: Optional[bytes] = None
 
 
-def read_message(body: Bytes, role: Role = Role.REPLY) -> Message:
-    """The message of a body, read in a role. `Refused` is judged 2, 1, 4, 5, 6, 7, 8.
+def weight_from(weight: QuayWeight) -> Weight:
+    """A weight that the library said."""
+    return Weight(weight.w0, weight.w1, weight.w2, weight.con, Family(weight.family))
 
-    >>> read_message(bytes.fromhex('01c351020001de')).weight.kilograms
+
+def read_message(body: Bytes, family: Family, role: Role = Role.REPLY) -> Message:
+    """The message of a body, of a line of a family, read in a role. A weight that it says carries the family. `Refused` is judged 2, 1, 4,
+    5, 6, 7, 8.
+
+    >>> read_message(bytes.fromhex('01c351020001de'), Family.OF_002).weight.kilograms
     25.1
-    >>> read_message(bytes.fromhex('01c3e2'))
+    >>> read_message(bytes.fromhex('01c3e2'), Family.OF_002)
     Traceback (most recent call last):
     quay_refusal.Refused: refusal 4: check not 0
     """
     held = as_bytes(body)
-    message = accepted(library().quay_read_message(Role(role), held, len(held)))
+    message = accepted(library().quay_read_message(Role(role), Family(family), held, len(held)))
     what, says = message.what, Says(message.what.says)
     weighed = says is Says.WEIGHT
     numbered = says not in (Says.NOTHING, Says.WEIGHT)
@@ -120,7 +127,7 @@ def read_message(body: Bytes, role: Role = Role.REPLY) -> Message:
         number=what.number if numbered else None,
         on=what.on if says is Says.INPUTS else None,
         load=Load(what.load) if weighed else None,
-        weight=Weight.from_bytes(bytes(what.weight)) if weighed else None,
+        weight=weight_from(what.weight) if weighed else None,
         text=held[what.from_:what.to] if placed else None)
 
 
@@ -130,24 +137,25 @@ def write_frame(address: Address, code: int, data: Bytes = b'') -> bytes:
     >>> write_frame(Address(1), 0xC3).hex(' ')
     'ff 01 c3 e3 ff ff'
     """
-    return _written(library().quay_write_frame, address, code, data)
+    return _written(library().quay_write_frame, (), address, code, data)
 
 
-def write_message(role: Role, address: Address, code: int, data: Bytes = b'') -> bytes:
-    """The frame of a message, in a role. `Refused` is judged 5, 6, 7, 8, 2.
+def write_message(role: Role, family: Family, address: Address, code: int, data: Bytes = b'') -> bytes:
+    """The frame of a message, in a role, for a line of a family. `Refused` is judged 5, 6, 7, 8, 2; a weight by its family, as it is read.
 
-    >>> write_message(Role.REPLY, Address(1), 0xA1, bytes([255, 0, 0])).hex(' ')
+    >>> write_message(Role.REPLY, Family.OF_002, Address(1), 0xA1, bytes([255, 0, 0])).hex(' ')
     'ff 01 a1 ff fe 00 00 39 ff ff'
-    >>> write_message(Role.REQUEST, Address(1), 0xEE)
+    >>> write_message(Role.REQUEST, Family.OF_002, Address(1), 0xEE)
     Traceback (most recent call last):
     quay_refusal.Refused: refusal 6: code not in the table for that role
     """
-    return _written(library().quay_write_message, address, code, data, Role(role))
+    return _written(library().quay_write_message, (Role(role), Family(family)), address, code, data)
 
 
-def _written(write: Any, address: Address, code: int, data: Bytes, *role: Role) -> bytes:
+def _written(write: Any, spoken: Tuple[int, ...], address: Address, code: int, data: Bytes) -> bytes:
+    """What a function writes. `spoken` is what it is told ahead of the address: role and family, or nothing."""
     held = as_bytes(data)
     code = whole_number('code', code, HIGHEST_BYTE)
     room = ctypes.create_string_buffer(FRAME_ROOM)
-    answer = accepted(write(*role, *address.crossing(), code, held, len(held), room, FRAME_ROOM))
+    answer = accepted(write(*spoken, *address.crossing(), code, held, len(held), room, FRAME_ROOM))
     return room.raw[:answer.length]

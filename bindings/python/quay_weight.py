@@ -1,9 +1,11 @@
-"""Weights: four bytes, what the terminal shows with them, and their exact value."""
+"""Weights: four bytes and their family, what the terminal shows with them, and their exact value."""
 from __future__ import annotations
 
 from dataclasses import dataclass
 from fractions import Fraction
+from typing import Optional
 
+from quay_family import Family, mode_of
 from quay_library import HIGHEST_BYTE, Bytes, QuayWeight, as_bytes, library, whole_number
 from quay_refusal import accepted
 
@@ -13,7 +15,8 @@ WEIGHT_BYTES = 4
 
 @dataclass(frozen=True)
 class Reading:
-    """What a terminal shows: the sign bit, the number 0 to 999,999, the digits after the point, and the flags."""
+    """What a terminal shows: the sign bit, the number 0 to 999,999, the digits after the point, and the flags. What bits 6 and 5 mean, the
+    family says."""
     number: int
     point: int
     minus: bool
@@ -21,18 +24,30 @@ class Reading:
     bit5: bool
     settled: bool
     overload: bool
+    family: Family
+
+    @property
+    def mode(self) -> Optional[str]:
+        """What bit 5 says, in the listing's words: `net` or `gross` (000 and 002), `scale0` or `scale1` (001). None in the plain family.
+
+        It is the terminal's mode and not the weight that was asked for: the two may differ.
+        """
+        return mode_of(self.family, self.bit5)
 
 
 @dataclass(frozen=True)
 class Weight:
-    """The four bytes of a weight, W0 W1 W2 CON, as the wire and the log have them.
+    """The four bytes of a weight, W0 W1 W2 CON, as the wire and the log have them, and the family of the terminal that said them.
 
     If the bytes are no weight, every question about them raises `Refused` with number 8. The answer is never 0 and never another number.
+    Bit 6 of CON is refused so in family 002.
 
-    >>> weight = Weight.from_bytes(bytes.fromhex('51020001'))
+    >>> weight = Weight.from_bytes(bytes.fromhex('51020001'), Family.OF_002)
     >>> weight.value, weight.kilograms_exact, weight.kilograms
     (251000000, Fraction(251, 10), 25.1)
-    >>> Weight.from_bytes(bytes.fromhex('ffffffff')).value
+    >>> Weight.from_bytes(bytes.fromhex('51020041'), Family.OF_000).kilograms
+    25.1
+    >>> Weight.from_bytes(bytes.fromhex('51020041'), Family.OF_002).kilograms
     Traceback (most recent call last):
     quay_refusal.Refused: refusal 8: a field outside its values
     """
@@ -40,36 +55,39 @@ class Weight:
     w1: int
     w2: int
     con: int
+    family: Family
 
     def __post_init__(self) -> None:
         for name in ('w0', 'w1', 'w2', 'con'):
             whole_number(name, getattr(self, name), HIGHEST_BYTE)
+        Family(self.family)
 
     @classmethod
-    def from_bytes(cls, four: Bytes) -> Weight:
-        """The weight of four bytes in the order of the wire."""
+    def from_bytes(cls, four: Bytes, family: Family) -> Weight:
+        """The weight of four bytes in the order of the wire, of a terminal of a family."""
         held = as_bytes(four)
         if len(held) != WEIGHT_BYTES:
             raise ValueError(f'a weight has {WEIGHT_BYTES} bytes, W0 W1 W2 CON, not {len(held)}')
-        return cls(*held)
+        return cls(*held, family)
 
     def __bytes__(self) -> bytes:
         return bytes((self.w0, self.w1, self.w2, self.con))
 
     def crossing(self) -> QuayWeight:
-        """The four bytes as the library takes them."""
-        return QuayWeight.from_buffer_copy(bytes(self))
+        """The four bytes and the family as the library takes them."""
+        return QuayWeight(*bytes(self), self.family)
 
     @property
     def reading(self) -> Reading:
         """What the terminal shows.
 
-        >>> Weight.from_bytes(bytes.fromhex('05000091')).reading
-        Reading(number=5, point=1, minus=True, bit6=False, bit5=False, settled=True, overload=False)
+        >>> reading = Weight.from_bytes(bytes.fromhex('050000b1'), Family.OF_002).reading
+        >>> reading.minus, reading.number, reading.point, reading.settled, reading.mode
+        (True, 5, 1, True, 'net')
         """
         shown = accepted(library().quay_read_weight(self.crossing()))
         flags = (bool(flag) for flag in (shown.minus, shown.bit6, shown.bit5, shown.settled, shown.overload))
-        return Reading(shown.number, shown.point, *flags)
+        return Reading(shown.number, shown.point, *flags, Family(shown.family))
 
     @property
     def value(self) -> int:
@@ -97,9 +115,9 @@ def exact_kilograms(value: int) -> Fraction:
 
 
 def difference(gross: Weight, net: Weight) -> int:
-    """Gross less net in tenths of a milligram: a signed difference, which may be negative.
+    """Gross less net in tenths of a milligram: a signed difference, which may be negative. The two may be of different families.
 
-    >>> difference(Weight(0x51, 0x02, 0, 0x01), Weight(0x05, 0, 0, 0x91))
+    >>> difference(Weight(0x51, 0x02, 0, 0x01, Family.OF_002), Weight(0x05, 0, 0, 0x91, Family.OF_002))
     256000000
     """
     return accepted(library().quay_difference(gross.crossing(), net.crossing())).value

@@ -1,8 +1,9 @@
 """What each function of the export library answers, from the second model.
 
 The rules themselves are tests/model's. Here stands only what crossing to another language adds to them, written from the promises in
-crates/crossing/specs and crates/quay_*/specs: phases, roles, kinds and refusals as numbers, and 8 for a number that is none; an address as two numbers; and what the
-fields hold where something is refused. Each function takes the inputs of a case line in their order and gives its answer's words.
+crates/crossing/specs and crates/quay_*/specs: phases, roles, families, kinds and refusals as numbers, and 8 for a number that is none; an address
+as two numbers; a weight's four bytes with its family behind them; and what the fields hold where something is refused. Each function takes the
+inputs of a case line in their order and gives its answer's words.
 """
 
 from __future__ import annotations
@@ -13,13 +14,14 @@ from typing import Union
 
 sys.path.append(os.path.join(os.path.dirname(os.path.abspath(__file__)), '..', 'model'))
 
-import frame  # noqa: E402 (the model's folder is only now on the path)
+import families  # noqa: E402 (the model's folder is only now on the path)
+import frame  # noqa: E402
 import line  # noqa: E402
 import listing  # noqa: E402
 import log  # noqa: E402
 import message  # noqa: E402
 import weight  # noqa: E402
-from refusals import ACCEPTED, ALL as REFUSALS, FIELD_WRONG, RECORD_WRONG  # noqa: E402 (REFUSALS: for those who make inputs)
+from refusals import ACCEPTED, ALL as REFUSALS, FIELD_WRONG, RECORD_WRONG, refused  # noqa: E402 (REFUSALS: for those who make inputs)
 
 PHASES = ('seeking', 'delimited', 'inside', 'held')
 NOTHING, FRAME, REFUSED = 0, 1, 2
@@ -29,9 +31,10 @@ LOADS = {message.GROSS: 1, message.NET: 2}
 ALL_ONES = 0xFFFFFFFF
 NO_NUMBER = 0xFFFFFFFFFFFFFFFF
 NO_COUNT = ALL_ONES
-NO_READING = (ALL_ONES, 0) + (255,) * 5  # number and point together are far above any weight
+NO_FAMILY = 255
+NO_READING = (ALL_ONES, 0) + (255,) * 5 + (NO_FAMILY,)  # number and point together are far above any weight
 NO_VALUE = -2 ** 63
-NO_WEIGHT = b'\xff\xff\xff\xff'
+NO_WEIGHT = b'\xff\xff\xff\xff' + bytes([NO_FAMILY])
 NO_DIGITS = b'\xff\xff\xff'
 
 Word = Union[int, bytes, str]
@@ -97,11 +100,16 @@ def write_frame(short: int, serial: int, code: int, data: bytes, room: bytes) ->
     return frame.write_frame(address_of(short, serial), code, data, lent) + (bytes(lent),)
 
 
-def write_message(role: int, short: int, serial: int, code: int, data: bytes, room: bytes) -> Answer:
-    if role >= len(message.ROLES):
+def is_known(role: int, family: int) -> bool:
+    """Whether both numbers name something. Nothing else is judged ahead of them."""
+    return role < len(message.ROLES) and families.is_family(family)
+
+
+def write_message(role: int, family: int, short: int, serial: int, code: int, data: bytes, room: bytes) -> Answer:
+    if not is_known(role, family):
         return (FIELD_WRONG, 0, room)
     lent = bytearray(room)
-    return message.write_message(message.ROLES[role], address_of(short, serial), code, data, lent) + (bytes(lent),)
+    return message.write_message(message.ROLES[role], family, address_of(short, serial), code, data, lent) + (bytes(lent),)
 
 
 def plain(says: int, number: int = NO_NUMBER, on: int = NO_COUNT) -> Answer:
@@ -109,61 +117,72 @@ def plain(says: int, number: int = NO_NUMBER, on: int = NO_COUNT) -> Answer:
 
 
 # What a row of the table says of its data, which begin at `start` of the body:
-# says, number, on, load, weight, and from where to where a text stands.
+# says, number, on, load, weight, and from where to where a text stands. A weight alone says more than its row knows.
 SAYS = {
-    message.NONE: lambda start, code, data: plain(0),
-    message.SERIAL: lambda start, code, data: plain(1, message.low_first(data)),
-    message.PRINTER: lambda start, code, data: plain(2, data[0]),
-    message.DISPLAY: lambda start, code, data: plain(2, data[0]),
-    message.STATUS: lambda start, code, data: plain(3, data[0]),
-    message.WEIGHT: lambda start, code, data: (4, NO_NUMBER, NO_COUNT, LOADS[code], data, 0, 0),
-    message.INPUTS: lambda start, code, data: plain(5, message.low_first(data), message.inputs_on(data)),
-    message.FOUR_BYTES: lambda start, code, data: plain(6, message.low_first(data)),
-    message.DISPLAY_TEXT: lambda start, code, data: (7, data[0], NO_COUNT, 0, NO_WEIGHT, start + 2, start + len(data)),
-    message.TEXT: lambda start, code, data: (7, data[0], NO_COUNT, 0, NO_WEIGHT, start + 2, start + len(data)),
-    message.EVENT: lambda start, code, data: (8, data[0], NO_COUNT, 0, NO_WEIGHT, start + 1, start + len(data)),
-    message.FIVE_BYTES: lambda start, code, data: plain(9, message.low_first(data)),
-    message.ERROR: lambda start, code, data: plain(10, data[0]),
+    message.NONE: lambda start, data: plain(0),
+    message.SERIAL: lambda start, data: plain(1, message.low_first(data)),
+    message.PRINTER: lambda start, data: plain(2, data[0]),
+    message.DISPLAY: lambda start, data: plain(2, data[0]),
+    message.STATUS: lambda start, data: plain(3, data[0]),
+    message.INPUTS: lambda start, data: plain(5, message.low_first(data), message.inputs_on(data)),
+    message.FOUR_BYTES: lambda start, data: plain(6, message.low_first(data)),
+    message.DISPLAY_TEXT: lambda start, data: (7, data[0], NO_COUNT, 0, NO_WEIGHT, start + 2, start + len(data)),
+    message.TEXT: lambda start, data: (7, data[0], NO_COUNT, 0, NO_WEIGHT, start + 2, start + len(data)),
+    message.EVENT: lambda start, data: (8, data[0], NO_COUNT, 0, NO_WEIGHT, start + 1, start + len(data)),
+    message.FIVE_BYTES: lambda start, data: plain(9, message.low_first(data)),
+    message.ERROR: lambda start, data: plain(10, data[0]),
 }
 
 
-def read_message(role: int, body: bytes) -> Answer:
-    if role >= len(message.ROLES):
+def weight_said(family: int, code: int, four: bytes) -> Answer:
+    """A weight carries the family of its line."""
+    return (4, NO_NUMBER, NO_COUNT, LOADS[code], four + bytes([family]), 0, 0)
+
+
+def read_message(role: int, family: int, body: bytes) -> Answer:
+    if not is_known(role, family):
         return (FIELD_WRONG, 0, 0, 0, 0, 0) + plain(0)
-    answer = message.read_message(message.ROLES[role], body)
+    answer = message.read_message(message.ROLES[role], family, body)
     if answer[0] != ACCEPTED:
         return (answer[0], 0, 0, 0, 0, 0) + plain(0)
     _, address, code, data, _ = answer
-    start = len(frame.address_bytes(address)) + 1
-    said = SAYS[message.row(message.ROLES[role], code)](start, code, data)
+    start, row = len(frame.address_bytes(address)) + 1, message.row(message.ROLES[role], code)
+    said = weight_said(family, code, data) if row is message.WEIGHT else SAYS[row](start, data)
     return (ACCEPTED,) + numbers_of(address) + (code, start, start + len(data)) + said
 
 
-# ---- weights
+# ---- weights: four bytes, and the family behind them
 
-def read_weight(four: bytes) -> Answer:
-    answer = weight.read_reading(four)
+def reading_of(five: bytes) -> tuple:
+    """(0, reading), or (8,), also for a family that is none."""
+    four, family = five[:4], five[4]
+    return weight.read_reading(family, four) if families.is_family(family) else refused(FIELD_WRONG)
+
+
+def read_weight(five: bytes) -> Answer:
+    answer = reading_of(five)
     if answer[0] != ACCEPTED:
         return answer + NO_READING
     reading = answer[1]
-    return (ACCEPTED, reading.number, reading.point, reading.minus, reading.six, reading.five, reading.settled, reading.overload)
+    return (ACCEPTED, reading.number, reading.point, reading.minus, reading.six, reading.five, reading.settled, reading.overload,
+            reading.family)
 
 
-def value(four: bytes) -> Answer:
-    answer = weight.read_reading(four)
+def value(five: bytes) -> Answer:
+    answer = reading_of(five)
     return answer + (NO_VALUE,) if answer[0] != ACCEPTED else weight.value(answer[1])
 
 
 def difference(gross: bytes, net: bytes) -> Answer:
-    readings = [weight.read_reading(four) for four in (gross, net)]
-    refused = [answer for answer in readings if answer[0] != ACCEPTED]
-    if refused:
-        return refused[0] + (NO_VALUE,)
+    readings = [reading_of(five) for five in (gross, net)]
+    wrong = [answer for answer in readings if answer[0] != ACCEPTED]
+    if wrong:
+        return wrong[0] + (NO_VALUE,)
     return weight.difference(readings[0][1], readings[1][1])
 
 
-def kilograms(four: bytes) -> Answer:
-    answer = weight.read_reading(four)
+def kilograms(five: bytes) -> Answer:
+    answer = reading_of(five)
     if answer[0] != ACCEPTED:
         return answer + ('nan',)
     return (ACCEPTED, weight.float_bits(weight.kilograms(answer[1])[1]))
@@ -172,7 +191,7 @@ def kilograms(four: bytes) -> Answer:
 # ---- the log
 
 def no_record(refusal: int) -> Answer:
-    return (refusal, 0, 0, 0, 0, 0, NO_DIGITS)
+    return (refusal, 0, 0, 0, 0, 0, NO_DIGITS, NO_FAMILY)
 
 
 def record_words(record: log.Record | None) -> Answer:
@@ -184,19 +203,20 @@ def record_words(record: log.Record | None) -> Answer:
     return (ACCEPTED,) + tuple(record)
 
 
-def record_given(time: int, kind: int, address: int, serial: int, status: int, digits: bytes) -> log.Record:
+def record_given(record: log.Record) -> log.Record:
     """A record handed in: where it is no weighing, no digits stand for its zeros."""
-    weighing = kind in (log.KIND_GROSS, log.KIND_NET)
-    weight = log.NO_WEIGHT if digits == NO_DIGITS and not weighing else digits
-    return log.Record(time, kind, address, serial, status, weight)
+    weighing = record.kind in (log.KIND_GROSS, log.KIND_NET)
+    return record._replace(weight=log.NO_WEIGHT) if record.weight == NO_DIGITS and not weighing else record
 
 
-def write_record(time: int, kind: int, address: int, serial: int, status: int, digits: bytes, carried: int, room: bytes) -> Answer:
-    """What carries a refusal is no record."""
+def write_record(
+        time: int, kind: int, address: int, serial: int, status: int, digits: bytes, family: int, carried: int, room: bytes) -> Answer:
+    """What carries a refusal is no record. A family that is none breaks a record's rule, as any other byte 17 does."""
     if carried != ACCEPTED:
         return (RECORD_WRONG, 0, room)
     lent = bytearray(room)
-    return log.write_record(record_given(time, kind, address, serial, status, digits), lent) + (bytes(lent),)
+    record = record_given(log.Record(time, kind, address, serial, status, digits, family))
+    return log.write_record(record, lent) + (bytes(lent),)
 
 
 def read_record(lent: bytes) -> Answer:
@@ -217,28 +237,31 @@ def step(whole: bytes, place: int) -> Answer:
     return record_words(answer[1]) + (answer[2],)
 
 
-def record_heard(time: int, role: int, kind: int, refusal: int, wire: int, kept: int, body: bytes) -> Answer:
-    """A role that is none is refused ahead of an event that is none."""
-    if role >= len(message.ROLES):
+def record_heard(time: int, role: int, family: int, kind: int, refusal: int, wire: int, kept: int, body: bytes) -> Answer:
+    """A role or a family that is none is refused also where there was no event."""
+    if not is_known(role, family):
         return no_record(FIELD_WRONG)
     number, event = event_given(kind, refusal, wire, kept, body)
     if number != ACCEPTED:
         return no_record(number)
-    return record_words(None if event is None else log.record_heard(time, message.ROLES[role], event))
+    return record_words(None if event is None else log.record_heard(time, message.ROLES[role], family, event))
 
 
 # ---- the listing
 
-def list_event(number: int, kind: int, refusal: int, wire: int, kept: int, body: bytes, room: bytes) -> Answer:
-    """A frame's body is judged again, check and all: a caller may lend other bytes than those that were heard."""
-    refused, event = event_given(kind, refusal, wire, kept, body)
-    if refused != ACCEPTED:
-        return (refused, 0, 0, room)
+def list_event(number: int, family: int, kind: int, refusal: int, wire: int, kept: int, body: bytes, room: bytes) -> Answer:
+    """A frame's body is judged again, check and all: a caller may lend other bytes than those that were heard. A family that is none is refused
+    also where there was no event."""
+    if not families.is_family(family):
+        return (FIELD_WRONG, 0, 0, room)
+    why, event = event_given(kind, refusal, wire, kept, body)
+    if why != ACCEPTED:
+        return (why, 0, 0, room)
     if event is None:
         return (ACCEPTED, 0, 0, room)
     lent = bytearray(room)
-    written = listing.write_line(number, event, lent)
-    return written + (ENTRIES[listing.entry(event)[0]], bytes(lent))
+    written = listing.write_line(number, family, event, lent)
+    return written + (ENTRIES[listing.entry(family, event)[0]], bytes(lent))
 
 
 def list_total(total: int, weights: int, refused: int, room: bytes) -> Answer:

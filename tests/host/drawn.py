@@ -8,6 +8,7 @@ from __future__ import annotations
 from typing import Callable, Iterator
 
 import crossing  # first: it puts the model's folder on the path
+import families
 import frame
 import listing
 import message
@@ -24,6 +25,7 @@ MARKS = marked_room(1200)
 LITTLE = 12
 SOME_CODES = tuple(message.TABLE)
 STRANGE = (2, 3, 4, 12, 127, 128, 255)  # no role, and but for 3 no phase; no kind of event
+STRANGE_FAMILIES = (4, 5, 127, 128, 255)
 
 
 def room_around(source: RandomBytes, need: int) -> bytes:
@@ -44,6 +46,10 @@ def some_role(source: RandomBytes) -> int:
     return source.below(2) if source.below(16) else source.choice(STRANGE)
 
 
+def a_family(source: RandomBytes) -> int:
+    return source.choice(families.ALL) if source.below(16) else source.choice(STRANGE_FAMILIES)
+
+
 def wide_number(source: RandomBytes) -> int:
     """A 64-bit number, small ones as common as large ones."""
     return source.number() >> source.below(64)
@@ -52,11 +58,12 @@ def wide_number(source: RandomBytes) -> int:
 # ---- weights
 
 def some_weight(source: RandomBytes) -> bytes:
-    four = weight_data(source)
+    """W0 W1 W2 CON and the family, mostly right."""
+    five = weight_data(source) + bytes([a_family(source)])
     if source.below(5):
-        return four
+        return five
     place = source.below(3)
-    return four[:place] + source.bytes(1) + four[place + 1:]
+    return five[:place] + source.bytes(1) + five[place + 1:]
 
 
 def read_weight(source: RandomBytes) -> Case:
@@ -106,7 +113,7 @@ def some_row(source: RandomBytes) -> tuple[int, int, bytes]:
 def write_message(source: RandomBytes) -> Case:
     numbers, (role, code, data) = some_numbers(source), some_row(source)
     _, need = frame.room_needed(crossing.address_of(*numbers), code, data)
-    return ('write_message', role, *numbers, code, data, room_around(source, need))
+    return ('write_message', role, a_family(source), *numbers, code, data, room_around(source, need))
 
 
 def some_body(source: RandomBytes) -> tuple[int, bytes]:
@@ -120,7 +127,8 @@ def some_body(source: RandomBytes) -> tuple[int, bytes]:
 
 
 def read_message(source: RandomBytes) -> Case:
-    return ('read_message', *some_body(source))
+    role, body = some_body(source)
+    return ('read_message', role, a_family(source), body)
 
 
 # ---- the log
@@ -142,6 +150,8 @@ def write_record(source: RandomBytes) -> Case:
         record = record._replace(address=source.byte(), serial=source.number() >> source.between(32, 63))
     elif change == 2:
         record = record._replace(status=source.byte(), weight=source.bytes(3))
+    elif change == 3:
+        record = record._replace(family=source.choice((a_family(source), source.byte())))
     carried = 0 if source.below(12) else source.byte()
     return ('write_record', *record, carried, MARKS[:source.choice((20, 20, 20, 19, 0, 21, 26))])
 
@@ -175,14 +185,14 @@ def some_event(source: RandomBytes) -> tuple[int, tuple[int, int, int, int], byt
 
 def record_heard(source: RandomBytes) -> Case:
     role, event, body = some_event(source)
-    return ('record_heard', wide_number(source), role, *event, body)
+    return ('record_heard', wide_number(source), role, a_family(source), *event, body)
 
 
 def list_event(source: RandomBytes) -> Case:
     _, event, body = some_event(source)
-    number = wide_number(source)
-    _, need, _, _ = crossing.list_event(number, *event, body, MARKS)
-    return ('list_event', number, *event, body, room_around(source, need))
+    number, family = wide_number(source), a_family(source)
+    _, need, _, _ = crossing.list_event(number, family, *event, body, MARKS)
+    return ('list_event', number, family, *event, body, room_around(source, need))
 
 
 def list_total(source: RandomBytes) -> Case:

@@ -8,6 +8,7 @@ import crossing  # first: it puts the model's folder on the path
 import cases_line
 import cases_listing
 import cases_log
+import families
 import line
 import message
 from captures import PAPER, body_of_length, body_with_check_ff, named_captures
@@ -23,6 +24,7 @@ GROSS = bytes.fromhex(PAPER[2][1])
 GROSS_BODY = GROSS[1:-2]
 STRANGE_PHASES = (4, 5, 127, 128, 254, 255)
 STRANGE_ROLES = (2, 3, 128, 255)
+STRANGE_FAMILIES = (4, 5, 128, 255)
 STRANGE_KINDS = (3, 4, 127, 128, 255)
 STRANGE_REFUSALS = (0, 12, 13, 128, 255)
 WIRES = (0, 7, 2 ** 32, 2 ** 64 - 1)
@@ -148,11 +150,13 @@ def lent_events() -> Iterator[tuple[Event, bytes]]:
 def recording() -> Iterator[Case]:
     for name, inputs, _ in cases_log.cases():
         if name == 'record_heard':
-            time, role, event = inputs
-            yield (name, time, message.ROLES.index(role), *event_words(event), event.body + MARKS[:time % 5])
+            time, role, family, event = inputs
+            yield (name, time, message.ROLES.index(role), family, *event_words(event), event.body + MARKS[:time % 5])
     for number, (event, body) in enumerate(lent_events()):
+        family, strange = families.ALL[number % 4], STRANGE_FAMILIES[number % 4]
         for role in (0, 1, STRANGE_ROLES[number % 4]):
-            yield ('record_heard', 86_400 + number, role, *event, body)
+            yield ('record_heard', 86_400 + number, role, family, *event, body)
+        yield ('record_heard', 86_400 + number, number % 2, strange, *event, body)
 
 
 def listed_lengths(need: int) -> tuple[int, ...]:
@@ -162,11 +166,14 @@ def listed_lengths(need: int) -> tuple[int, ...]:
 def listing_events() -> Iterator[Case]:
     for name, inputs, _ in cases_listing.cases():
         if name == 'write_line':
-            count, event, room = inputs
-            yield ('list_event', count, *event_words(event), event.body + MARKS[:count % 5], room)
-    for event, body in lent_events():
-        _, need, _, _ = crossing.list_event(2 ** 64 - 1, *event, body, MARKS)
+            count, family, event, room = inputs
+            yield ('list_event', count, family, *event_words(event), event.body + MARKS[:count % 5], room)
+    for number, (event, body) in enumerate(lent_events()):
+        family, strange = families.ALL[number % 4], STRANGE_FAMILIES[number % 4]
+        _, need, _, _ = crossing.list_event(2 ** 64 - 1, family, *event, body, MARKS)
         for length in listed_lengths(need):
-            yield ('list_event', 2 ** 64 - 1, *event, body, MARKS[:length])
+            yield ('list_event', 2 ** 64 - 1, family, *event, body, MARKS[:length])
+        yield ('list_event', 2 ** 64 - 1, strange, *event, body, MARKS[:85])
     for number in (0, 1, 9, 10, 99, 100, 10 ** 19, 2 ** 63, 2 ** 64 - 1):
-        yield ('list_event', number, 1, 0, 9, len(GROSS_BODY), GROSS_BODY, MARKS[:85])
+        for family in families.ALL:
+            yield ('list_event', number, family, 1, 0, 9, len(GROSS_BODY), GROSS_BODY, MARKS[:85])

@@ -1,10 +1,12 @@
-"""Cases of the listing: lines of events, the total line, small captures."""
+"""Cases of the listing: lines of events in every family, the total line, small captures."""
 
 from addresses import HIGH
-from captures import (E3_WEIGHT, PAPER, any_body, named_captures, reply_body, request_body, weight_body,
-                      wrong_field_body)
+from captures import (E3_WEIGHT, PAPER, WEIGHTS, any_body, named_captures, reply_body, request_body,
+                      weight_body, wrong_field_body)
 from cases_frame import written
 from cases_line import event_with
+import families
+from families_asked import every_mix, some_family
 from frame import HIGHEST_SHORT, body_of
 from good_messages import ROWS, good_data
 from line import Event, hear
@@ -41,27 +43,49 @@ def some_events(source):
     yield from address_events()
 
 
-def line_cases(source):
+def line_cases(source, turn):
     for place, event in enumerate(some_events(source)):
-        count = source.choice(COUNTS)
-        need = len(event_line(count, event))
+        count, family = source.choice(COUNTS), some_family(turn)
+        need = len(event_line(count, family, event))
         lengths = (need, need - 1, need + 5, 0) if place % 4 == 0 else (need,)
         for length in lengths:
-            yield written('write_line', write_line, (count, event), length)
+            yield written('write_line', write_line, (count, family, event), length)
 
 
-def handed_in_cases():
+def family_events():
+    """(family, event) of both weights, in every family with bits 6 and 5 clear
+    and set: settled and overloaded; the longest line; and a message that no
+    family changes."""
+    for code in WEIGHTS:
+        for family, status in every_mix(0x91):
+            yield family, event_with(body_of(('short', 1), code, b'\x05\x00\x00' + bytes([status])))
+        for family, status in every_mix(0x1F):
+            longest = b'\x99\x99\x99' + bytes([status])
+            yield family, event_with(body_of(('serial', 16_777_215), code, longest))
+    for family in families.ALL:
+        yield family, event_with(body_of(('short', 1), 0xC4, b'\x00\x00\x00\x60'))
+
+
+def family_cases():
+    for family, event in family_events():
+        need = len(event_line(2, family, event))
+        for length in (need, need - 1, need + 5):
+            yield written('write_line', write_line, (2, family, event), length)
+
+
+def handed_in_cases(turn):
     """Refusals handed in as events: 1 to 8 list, of the frame layer and of the
     message layer; the others are 8, ahead of 9, whatever the room."""
     for number in ALL:
         for count in (1, 10, 2 ** 64 - 1):
-            event = Event(number, 12, 3, b'')
-            need = len(event_line(count, event))
+            event, family = Event(number, 12, 3, b''), some_family(turn)
+            need = len(event_line(count, family, event))
             for length in (need, need - 1, need + 5, 0):
-                yield written('write_line', write_line, (count, event), length)
+                yield written('write_line', write_line, (count, family, event), length)
     for number in UNMET:
         for length in (1, 100):
-            yield written('write_line', write_line, (7, Event(number, 2 ** 64 - 1, 255, b'')), length)
+            yield written('write_line', write_line,
+                          (7, some_family(turn), Event(number, 2 ** 64 - 1, 255, b'')), length)
 
 
 def total_cases():
@@ -72,14 +96,17 @@ def total_cases():
             yield written('write_total', write_total, (events, weights, refusals), length)
 
 
-def capture_cases():
+def capture_cases(turn):
     for _, capture in named_captures():
-        yield ('listing', (capture,), (listing_of(capture),))
+        family = some_family(turn)
+        yield ('listing', (family, capture), (listing_of(family, capture),))
 
 
 def cases():
     source = RandomBytes(29)
-    yield from line_cases(source)
-    yield from handed_in_cases()
+    turn = RandomBytes(71)  # of the families, so that the other bytes do not depend on them
+    yield from line_cases(source, turn)
+    yield from family_cases()
+    yield from handed_in_cases(turn)
     yield from total_cases()
-    yield from capture_cases()
+    yield from capture_cases(turn)

@@ -5,25 +5,28 @@ from captures import (E3_WEIGHT, WEIGHTS, any_body, high_body, reply_body, reque
                       wrong_field_body)
 from cases_frame import marked_room
 from cases_line import event_with
+import families
+from families_asked import BITS_6_AND_5, BYTES_17, every_mix, some_family, with_bits
 from frame import HIGHEST_SHORT, body_of, frame_of
 from good_messages import weight_data
 from line import Event, hear
-from log import NO_WEIGHT, Record, read_record, record_heard, step, weight_noted, write_record
+from log import NO_FAMILY, NO_WEIGHT, Record, read_record, record_heard, step, weight_noted, write_record
 from message import ROLES
 from random_bytes import RandomBytes
 from refusals import ALL
 
 TIMES = (0, 1, 255, 256, 86_400, 2 ** 32, 2 ** 63, 2 ** 64 - 1)
-GOOD = Record(1000, 1, 1, 0, 0x01, b'\x51\x02\x00')
-GOOD_SERIAL = Record(1000, 2, 0, 255, 0x91, b'\x05\x00\x00')
-GOOD_REFUSAL = Record(1000, 3, 0, 0, 4, NO_WEIGHT)
+GOOD = Record(1000, 1, 1, 0, 0x01, b'\x51\x02\x00', families.OF_002)
+GOOD_SERIAL = Record(1000, 2, 0, 255, 0x91, b'\x05\x00\x00', families.OF_000)
+GOOD_REFUSAL = Record(1000, 3, 0, 0, 4, NO_WEIGHT, NO_FAMILY)
+OLD = GOOD_SERIAL._replace(family=families.PLAIN)
 WIDE_SERIALS = (0x1000000, 2 ** 32 - 1)  # open point 7.10
 HALVES = (0, 9, 10, 15)  # of a weight byte, at and past the decimal digits
 
 
 def field_changes():
-    """Each field at and past its boundaries, in each kind."""
-    for base in (GOOD, GOOD._replace(kind=2), GOOD_SERIAL, GOOD_REFUSAL):
+    """Each field at and past its boundaries, in each kind, of old and new records."""
+    for base in (GOOD, GOOD._replace(kind=2, family=families.OF_001), OLD, GOOD_REFUSAL):
         yield base
         for time in TIMES:
             yield base._replace(time=time)
@@ -42,6 +45,15 @@ def field_changes():
                 yield base._replace(weight=bytes(digits))
 
 
+def family_changes():
+    """Each byte 17 of interest in each kind, bits 6 and 5 of the status clear and
+    set. In kind 3 a status with one of them set is wrong by itself."""
+    for base in (GOOD, GOOD_SERIAL, GOOD_REFUSAL):
+        for family in BYTES_17:
+            for bits in BITS_6_AND_5:
+                yield base._replace(family=family, status=with_bits(base.status, bits))
+
+
 def wide_serials():
     for serial in WIDE_SERIALS:
         for base in (GOOD, GOOD_SERIAL, GOOD_REFUSAL):
@@ -49,13 +61,14 @@ def wide_serials():
 
 
 def some_record(source):
+    """A record whose fields are right, but for bit 6 where the family is 002."""
     kind = source.between(1, 3)
     if kind == 3:
-        return Record(source.number(), 3, 0, 0, source.between(1, 8), NO_WEIGHT)
+        return Record(source.number(), 3, 0, 0, source.between(1, 8), NO_WEIGHT, NO_FAMILY)
     address = source.choice((0, *BRIDGES, source.between(1, HIGHEST_SHORT)))
     serial = 0 if address else source.below(2 ** 24)
     data = weight_data(source)
-    return Record(source.number(), kind, address, serial, data[3], data[:3])
+    return Record(source.number(), kind, address, serial, data[3], data[:3], some_family(source))
 
 
 def write_case(record, length):
@@ -65,12 +78,11 @@ def write_case(record, length):
 
 
 def writing_cases(source):
-    for record in field_changes():
-        yield write_case(record, 20)
-    for record in wide_serials():
-        yield write_case(record, 20)
+    for group in (field_changes, wide_serials, family_changes):
+        for record in group():
+            yield write_case(record, 20)
     for length in (0, 1, 19, 20, 21, 40):
-        for record in (GOOD, GOOD_SERIAL, GOOD_REFUSAL, GOOD._replace(kind=0)):
+        for record in (GOOD, GOOD_SERIAL, OLD, GOOD_REFUSAL, GOOD._replace(kind=0), GOOD._replace(status=0x41)):
             yield write_case(record, length)
     for _ in range(60):
         yield write_case(some_record(source), source.between(18, 24))
@@ -79,64 +91,91 @@ def writing_cases(source):
 def record_bytes(record):
     """The 20 bytes of a record by its places alone, right or wrong."""
     return (record.time.to_bytes(8, 'little') + bytes([record.kind, record.address])
-            + record.serial.to_bytes(3, 'little') + bytes([record.status]) + record.weight + bytes(3))
+            + record.serial.to_bytes(3, 'little') + bytes([record.status]) + record.weight
+            + bytes([record.family, 0, 0]))
 
 
 def read_case(twenty):
     return ('read_record', (twenty,), read_record(twenty))
 
 
+def changed(record, place, byte):
+    """A record's 20 bytes with one of them changed."""
+    twenty = bytearray(record_bytes(record))
+    twenty[place] = byte
+    return bytes(twenty)
+
+
+def last_byte_cases():
+    """Bytes 18 and 19 not zero, in each kind of old and new records; and byte 17."""
+    for base in (GOOD, GOOD_SERIAL, GOOD_REFUSAL):
+        for byte in (1, 2, 3, 4, 255):
+            yield read_case(changed(base, 17, byte))
+            for family in families.ALL:
+                for place in (18, 19):
+                    yield read_case(changed(base._replace(family=family), place, byte))
+
+
 def record_reading_cases(source):
     for record in field_changes():
         yield read_case(record_bytes(record))
-    for base in (GOOD, GOOD_SERIAL, GOOD_REFUSAL):
-        for place in (17, 18, 19):
-            for byte in (1, 2, 3, 4, 255):
-                changed = bytearray(record_bytes(base))
-                changed[place] = byte
-                yield read_case(bytes(changed))
+    for record in family_changes():
+        yield read_case(record_bytes(record))
+    yield from last_byte_cases()
     for _ in range(100):
-        twenty = bytearray(record_bytes(some_record(source)))
-        yield read_case(bytes(twenty))
-        twenty[source.below(20)] = source.byte()
-        yield read_case(bytes(twenty))
+        record = some_record(source)
+        yield read_case(record_bytes(record))
+        yield read_case(changed(record, source.below(20), source.byte()))
     for _ in range(20):
         yield read_case(source.bytes(20))
 
 
-def heard_case(time, role, event):
-    return ('record_heard', (time, role, event), (record_heard(time, role, event),))
+def heard_case(time, role, family, event):
+    return ('record_heard', (time, role, family, event), (record_heard(time, role, family, event),))
 
 
 def heard_cases(source):
     for number in range(1, 6):
         for role in ROLES:
-            yield heard_case(source.choice(TIMES), role, Event(number, 9, 4, b''))
+            yield heard_case(source.choice(TIMES), role, some_family(source), Event(number, 9, 4, b''))
     makers = (weight_body, reply_body, request_body, any_body, high_body, wrong_field_body)
     for role in ROLES:
         for maker in makers:
             for _ in range(20):
                 for event in hear(frame_of(maker(source))):
-                    yield heard_case(source.choice(TIMES), role, event)
+                    yield heard_case(source.choice(TIMES), role, some_family(source), event)
 
 
-def address_cases():
+def family_cases():
+    """Both weights in both roles, in every family with bits 6 and 5 clear and
+    set: a reply makes a record of its family, or kind 3 with status 8."""
+    for family, status in every_mix(0x91):
+        for role in ROLES:
+            for code in WEIGHTS:
+                for address in (('short', 1), ('serial', 255)):
+                    body = body_of(address, code, b'\x05\x00\x00' + bytes([status]))
+                    yield heard_case(1000, role, family, event_with(body))
+
+
+def address_cases(source):
     """A weight from each address of interest, its event handed in. FE and FF,
     which no wire heard from fresh gives, are noted as refusal 5."""
     for first in HIGH:
         for code in WEIGHTS:
             event = event_with(body_of(('short', first), code, E3_WEIGHT))
             for role in ROLES:
-                yield heard_case(86_400 + first, role, event)
+                yield heard_case(86_400 + first, role, some_family(source), event)
 
 
 def handed_in_cases(source):
-    """Each of the paper's refusals as an event: 1 to 8 are met on the line, of
-    the frame layer and of the message layer; the others are refused by 8."""
+    """Each of the paper's refusals as an event, in every family: 1 to 8 are met
+    on the line, of the frame layer and of the message layer, and are noted
+    without a family; the others are refused by 8."""
     for number in ALL:
         for role in ROLES:
-            for wire, count in ((0, 0), (9, 4), (2 ** 64 - 1, 255)):
-                yield heard_case(86_400 + number, role, Event(number, wire, count, b''))
+            for family in families.ALL:
+                wire, count = source.choice(((0, 0), (9, 4), (2 ** 64 - 1, 255)))
+                yield heard_case(86_400 + number, role, family, Event(number, wire, count, b''))
 
 
 def step_cases(source):
@@ -164,6 +203,15 @@ def address_step_cases():
             yield ('step', (log, place), step(log, place))
 
 
+def family_step_cases():
+    """A log of one record for each byte 17 and both bits, stepped from each."""
+    records = list(family_changes())
+    for kind in (1, 2, 3):
+        log = b''.join(record_bytes(record) for record in records if record.kind == kind)
+        for place in range(0, len(log) + 1, 20):
+            yield ('step', (log, place), step(log, place))
+
+
 def weight_case(record):
     return ('weight_noted', tuple(record), weight_noted(record))
 
@@ -179,16 +227,19 @@ def digit_changes():
                     yield base._replace(weight=bytes(digits))
 
 
+def every_status():
+    """Every CON in every family, of gross records; and of the other kinds."""
+    for status in range(256):
+        for family in families.ALL:
+            yield GOOD._replace(status=status, family=family)
+        for base in (GOOD_SERIAL, GOOD_REFUSAL):
+            yield base._replace(status=status)
+
+
 def weight_cases(source):
-    for record in field_changes():
-        yield weight_case(record)
-    for record in wide_serials():
-        yield weight_case(record)
-    for base in (GOOD, GOOD_SERIAL, GOOD_REFUSAL):
-        for status in range(256):
-            yield weight_case(base._replace(status=status))
-    for record in digit_changes():
-        yield weight_case(record)
+    for group in (field_changes, wide_serials, family_changes, every_status, digit_changes):
+        for record in group():
+            yield weight_case(record)
     for _ in range(100):
         yield weight_case(some_record(source))
 
@@ -196,7 +247,8 @@ def weight_cases(source):
 def cases():
     source = RandomBytes(23)
     for group in (writing_cases, record_reading_cases, heard_cases, handed_in_cases, step_cases,
-                  weight_cases):
+                  weight_cases, address_cases):
         yield from group(source)
-    yield from address_cases()
     yield from address_step_cases()
+    yield from family_cases()
+    yield from family_step_cases()

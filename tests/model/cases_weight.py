@@ -1,24 +1,38 @@
-"""Cases of weights: four bytes, readings, values, differences, kilograms."""
+"""Cases of weights: four bytes, readings, values, differences, kilograms, modes."""
 
+import families
+from families_asked import some_family
 from good_messages import weight_data
 from message import inputs_on
 from random_bytes import RandomBytes
-from weight import (Reading, difference, float_bits, kilograms, read_reading, reading_is_right, value,
+from weight import (Reading, difference, float_bits, kilograms, mode, read_reading, reading_is_right, value,
                     write_reading)
 
 NUMBERS = (0, 1, 5, 9, 10, 99, 100, 251, 9_999, 10_000, 99_999, 100_000, 999_998, 999_999)
 WRONG_NUMBERS = (1_000_000, 1_000_001, 2 ** 24, 2 ** 32 - 1)
 WRONG_POINTS = (8, 9, 15, 128, 255)
 FLAGS = ('six', 'five', 'settled', 'overload')
+NO_OR_YES = (0, 1)
 
 
-def plain(minus, number, point):
-    return Reading(minus, number, point, 0, 0, 0, 0)
+def bare(minus, number, point, family=families.PLAIN):
+    """A reading with every flag clear."""
+    return Reading(minus, number, point, 0, 0, 0, 0, family)
 
 
-def four_byte_cases(source):
+def in_some_family(turn, readings):
+    """The same readings, each in one family by chance."""
+    return [reading._replace(family=some_family(turn)) for reading in readings]
+
+
+def status_bytes():
+    """Every CON in every family."""
     for status in range(256):
-        yield b'\x51\x02\x00' + bytes([status])
+        for family in families.ALL:
+            yield family, b'\x51\x02\x00' + bytes([status])
+
+
+def digit_bytes(source):
     for byte in range(256):
         for place in range(3):
             digits = bytearray(weight_data(source))
@@ -30,29 +44,54 @@ def four_byte_cases(source):
         yield source.bytes(4)
 
 
-def right_readings(source):
+def four_byte_cases(source, turn):
+    asked = list(status_bytes()) + [(some_family(turn), four) for four in digit_bytes(source)]
+    for family, four in asked:
+        yield ('read_reading', (family, four), read_reading(family, four))
+
+
+def some_readings(source):
+    """Number and point in their ranges."""
     for number in NUMBERS:
         for point in range(8):
-            for minus in (0, 1):
-                yield plain(minus, number, point)
+            for minus in NO_OR_YES:
+                yield bare(minus, number, point)
     for flag in FLAGS:
-        for minus in (0, 1):
-            yield plain(minus, 251, 1)._replace(**{flag: 1})
-            yield plain(minus, 0, 7)._replace(**{flag: 1})
+        for minus in NO_OR_YES:
+            yield bare(minus, 251, 1)._replace(**{flag: 1})
+            yield bare(minus, 0, 7)._replace(**{flag: 1})
     for _ in range(120):
         yield Reading(source.below(2), source.below(1_000_000), source.below(8), source.below(2),
-                      source.below(2), source.below(2), source.below(2))
+                      source.below(2), source.below(2), source.below(2), families.PLAIN)
 
 
 def wrong_readings():
-    for minus in (0, 1):
+    for minus in NO_OR_YES:
         for number in WRONG_NUMBERS:
-            yield plain(minus, number, 0)
-            yield plain(minus, number, 7)
+            yield bare(minus, number, 0)
+            yield bare(minus, number, 7)
         for point in WRONG_POINTS:
-            yield plain(minus, 0, point)
-            yield plain(minus, 999_999, point)
-    yield plain(1, 1_000_000, 8)
+            yield bare(minus, 0, point)
+            yield bare(minus, 999_999, point)
+    yield bare(1, 1_000_000, 8)
+
+
+def every_family(reading):
+    """A reading in every family with bits 6 and 5 clear and set."""
+    for family in families.ALL:
+        for six in NO_OR_YES:
+            for five in NO_OR_YES:
+                yield reading._replace(six=six, five=five, family=family)
+
+
+def family_readings():
+    """Every family with both bits: the other flags clear and set, and a number
+    or a point that is wrong in every family."""
+    for minus in NO_OR_YES:
+        yield from every_family(bare(minus, 251, 1))
+        yield from every_family(bare(minus, 999_999, 7)._replace(settled=1, overload=1))
+    yield from every_family(bare(0, 1_000_000, 1))
+    yield from every_family(bare(0, 251, 8))
 
 
 def kilogram_answer(reading):
@@ -60,27 +99,46 @@ def kilogram_answer(reading):
     return answer if len(answer) == 1 else (answer[0], float_bits(answer[1]))
 
 
-def reading_cases(source):
-    for reading in list(right_readings(source)) + list(wrong_readings()):
+def bytes_answer(reading):
+    """Its four bytes, and the family that they are read in."""
+    answer = write_reading(reading)
+    return answer if len(answer) == 1 else answer + (reading.family,)
+
+
+def reading_cases(source, turn):
+    readings = in_some_family(turn, some_readings(source)) + in_some_family(turn, wrong_readings())
+    for reading in readings + list(family_readings()):
         yield ('reading_is_right', (reading,), (reading_is_right(reading),))
-        yield ('write_reading', (reading,), write_reading(reading))
+        yield ('write_reading', (reading,), bytes_answer(reading))
         yield ('value', (reading,), value(reading))
         yield ('kilograms', (reading,), kilogram_answer(reading))
+        yield ('mode', (reading,), mode(reading))
 
 
-def difference_cases(source):
-    largest = plain(0, 999_999, 0)
-    least = plain(1, 999_999, 0)
-    wrong = plain(0, 1_000_000, 0)
-    far = plain(0, 1, 8)
-    overloaded = Reading(0, 600, 1, 1, 1, 1, 1)
-    pairs = [(gross, net) for gross in (largest, least, plain(0, 0, 0), plain(1, 0, 7), overloaded)
-             for net in (largest, least, plain(0, 0, 7), plain(1, 0, 0), plain(0, 1, 7))]
+def some_pairs(source):
+    largest = bare(0, 999_999, 0)
+    least = bare(1, 999_999, 0)
+    wrong = bare(0, 1_000_000, 0)
+    far = bare(0, 1, 8)
+    overloaded = Reading(0, 600, 1, 1, 1, 1, 1, families.PLAIN)
+    pairs = [(gross, net) for gross in (largest, least, bare(0, 0, 0), bare(1, 0, 7), overloaded)
+             for net in (largest, least, bare(0, 0, 7), bare(1, 0, 0), bare(0, 1, 7))]
     pairs += [(wrong, largest), (largest, wrong), (wrong, wrong), (far, least), (least, far),
               (wrong, far), (overloaded, wrong), (far, overloaded)]
-    right = list(right_readings(source))
-    pairs += [(source.choice(right), source.choice(right)) for _ in range(100)]
-    for gross, net in pairs:
+    right = list(some_readings(source))
+    return pairs + [(source.choice(right), source.choice(right)) for _ in range(100)]
+
+
+def family_pairs():
+    """Every family beside every other, bit 6 clear and set in each."""
+    grosses = [bare(0, 999_999, 1, family)._replace(six=six) for family in families.ALL for six in NO_OR_YES]
+    nets = [bare(0, 251, 2, family)._replace(six=six, five=1) for family in families.ALL for six in NO_OR_YES]
+    return [(gross, net) for gross in grosses for net in nets]
+
+
+def difference_cases(source, turn):
+    pairs = [tuple(in_some_family(turn, pair)) for pair in some_pairs(source)]
+    for gross, net in pairs + family_pairs():
         yield ('difference', (gross, net), difference(gross, net))
 
 
@@ -94,8 +152,8 @@ def input_cases(source):
 
 def cases():
     source = RandomBytes(17)
-    for four in four_byte_cases(source):
-        yield ('read_reading', (four,), read_reading(four))
-    yield from reading_cases(source)
-    yield from difference_cases(source)
+    turn = RandomBytes(61)  # of the families, so that the other bytes do not depend on them
+    yield from four_byte_cases(source, turn)
+    yield from reading_cases(source, turn)
+    yield from difference_cases(source, turn)
     yield from input_cases(source)

@@ -23,7 +23,8 @@ def decimal_byte(source):
 
 
 def weight_data(source):
-    """W0 W1 W2 CON. CON is any byte; small numbers are as common as large ones."""
+    """W0 W1 W2 CON. CON is any byte, also one whose bit 6 family 002 refuses;
+    small numbers are as common as large ones."""
     digits = [decimal_byte(source) for _ in range(3)]
     for place in range(source.below(4)):
         digits[2 - place] = 0
@@ -45,7 +46,8 @@ def event_data(source):
 
 
 def good_data(source, role, code, longest=247):
-    """Data that a row accepts in its role; texts of at most `longest`."""
+    """Data that a row accepts in its role, a weight in some family; texts of at
+    most `longest`."""
     data = message.row(role, code)
     if data is message.PRINTER:
         return bytes([source.choice(message.PRINTERS)])

@@ -1,13 +1,19 @@
 """The listing of a capture: "A capture is read as replies throughout."
 
 "(event; address, or `0:` and the serial, in decimal; sign bit as + or -;
-digits; point; settled; overload)". Every line ends with a newline, the total
-too (open point 5.8).
+digits; point; settled; overload)". 02 request 4: "The listing adds one field at
+the end of a weight line". Every line ends with a newline, the total too (open
+point 5.8).
 """
 
+import families
 import line
 import message
 from refusals import ACCEPTED, lend, refused_write
+
+# The last field of a weight line, by what bit 5 is called: where it is clear, where it is set.
+LAST_FIELDS = {families.NET_MODE: ('gross', 'net'), families.SCALE_NUMBER: ('scale0', 'scale1')}
+FAMILY_NOT_SAID = families.OF_002  # "where this paper is silent, 002 decides" (open point 5.7)
 
 
 def address_text(address):
@@ -16,22 +22,32 @@ def address_text(address):
     return '%d' % number if kind == 'short' else '0:%d' % number
 
 
+def last_field(reading):
+    """"`net`, `gross`, or `scale0`, `scale1`", with the blank before it. It
+    "comes from bit 5 alone" (open point 5.6). A plain reading has none."""
+    called = families.TABLE[reading.family].five
+    if called not in LAST_FIELDS:
+        return ''
+    return ' ' + LAST_FIELDS[called][reading.five]
+
+
 def weight_text(reading):
     """The sign bit, not the value's sign; six digits and no point in them
     (open point 5.4)."""
     sign = '-' if reading.minus else '+'
-    return '%s %06d %d %d %d' % (sign, reading.number, reading.point,
-                                 reading.settled, reading.overload)
+    return '%s %06d %d %d %d%s' % (sign, reading.number, reading.point, reading.settled,
+                                   reading.overload, last_field(reading))
 
 
-def entry(event):
+def entry(family, event):
     """('weight' or 'message' or 'refused', the line behind its event number).
+    "The caller says the family per line".
 
     A good frame whose message is refused lists as that refusal, without its
     address (open point 5.2)."""
     number = event.number
     if number == ACCEPTED:
-        answer = message.read_message('reply', event.body)
+        answer = message.read_message('reply', family, event.body)
         number = answer[0]
     if number != ACCEPTED:
         return 'refused', 'refused %d' % number
@@ -42,9 +58,9 @@ def entry(event):
     return 'weight', 'weight %s %s %s' % (word, address_text(address), weight_text(fields[0]))
 
 
-def event_line(count, event):
+def event_line(count, family, event):
     """One line as bytes: the event's number in the listing, then the entry."""
-    return b'%d %s\n' % (count, entry(event)[1].encode('ascii'))
+    return b'%d %s\n' % (count, entry(family, event)[1].encode('ascii'))
 
 
 def total_line(events, weights, refusals):
@@ -52,13 +68,13 @@ def total_line(events, weights, refusals):
     return b'total %d weights %d refused %d\n' % (events, weights, refusals)
 
 
-def write_line(count, event, room):
+def write_line(count, family, event, room):
     """An event's line into lent room: (0, length), or (8, 0) of an event whose
     refusal no line can meet ("refusals 1 to 8 all as the third line"), then (9, 0)."""
     number = line.judge_event(event)
     if number != ACCEPTED:
         return refused_write(number)
-    return lend(event_line(count, event), room)
+    return lend(event_line(count, family, event), room)
 
 
 def write_total(events, weights, refusals, room):
@@ -66,18 +82,19 @@ def write_total(events, weights, refusals, room):
     return lend(total_line(events, weights, refusals), room)
 
 
-def lines_of(capture):
-    """The lines of a capture, the total last."""
+def lines_of(family, capture):
+    """The lines of a capture, the total last. A serial line has one family, so
+    a capture has one (open point 5.7)."""
     counts = {'weight': 0, 'message': 0, 'refused': 0}
     events = 0
     for event in line.hear(capture):
         events += 1
-        kind, text = entry(event)
+        kind, text = entry(family, event)
         counts[kind] += 1
         yield b'%d %s\n' % (events, text.encode('ascii'))
     yield total_line(events, counts['weight'], counts['refused'])
 
 
-def listing_of(capture):
+def listing_of(family, capture):
     """The whole listing as bytes."""
-    return b''.join(lines_of(capture))
+    return b''.join(lines_of(family, capture))

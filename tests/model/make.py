@@ -7,8 +7,8 @@
 
 The committed files are what `crates/vectors` reads and must write, and a mixed
 capture with its listing, which `crates/list_capture` reads and must write; and
-the small wires of samples/ with theirs. As text there is a file per part of the
-model with one case a line.
+the small wires of samples/ with theirs. All captures are listed as family 002.
+As text there is a file per part of the model with one case a line.
 """
 
 import collections
@@ -29,6 +29,10 @@ CAPTURE_SIZE = 200_000
 SHOWN = 10  # cases that a difference shows whole
 
 
+def listed(capture):
+    return listing.listing_of(listing.FAMILY_NOT_SAID, capture)
+
+
 def text_of(part):
     return ''.join(cases.line_of(case) + '\n' for case in part()).encode('ascii')
 
@@ -43,7 +47,7 @@ def run_files():
     """(program, what it reads, what it must write) of the committed files."""
     yield ('vectors', *vectors.files())
     capture = captures.capture(CAPTURE_SEED, CAPTURE_SIZE)
-    yield 'list_capture', capture, listing.listing_of(capture)
+    yield 'list_capture', capture, listed(capture)
 
 
 def committed_files():
@@ -53,7 +57,7 @@ def committed_files():
         yield 'crates/%s/stdout' % program, stdout
     for name, wire in sample.SAMPLES:
         yield 'samples/%s.capture' % name, wire()
-        yield 'samples/%s.listing' % name, listing.listing_of(wire())
+        yield 'samples/%s.listing' % name, listed(wire())
 
 
 def content_of(path):

@@ -13,6 +13,7 @@ from captures import (E3_WEIGHT, capture, check_spoilt, ff_not_stuffed, named_ca
                       weight_from)
 from cases_line import event_with
 from cases_log import record_bytes
+import families
 from frame import (address_is_legal, body_of, first_byte_is_legal, frame_of, judge_heard, judge_lent,
                    open_body, room_needed, stuffed, write_frame)
 from line import FRESH, Event, feed, feed_block, hear, kept_bytes, state_of
@@ -25,11 +26,12 @@ from refusals import ACCEPTED, ADDRESS_WRONG
 BANNED = (0xFE, 0xFF)
 NOT_BANNED = [first for first in range(1, 256) if first not in BANNED]
 ENDING = b'\xff\xff'
+FAMILY = families.OF_002
 
 
 def record_from(first, kind=1):
     """The record of `weight_from`, right or wrong."""
-    return Record(7, kind, first, 0, E3_WEIGHT[3], E3_WEIGHT[:3])
+    return Record(7, kind, first, 0, E3_WEIGHT[3], E3_WEIGHT[:3], FAMILY)
 
 
 def heard_with_nothing_kept(first):
@@ -52,7 +54,7 @@ def came_back(kind, first):
 
 def line_from(first):
     room = bytearray(80)
-    length = write_line(1, event_with(weight_from(first)), room)[1]
+    length = write_line(1, FAMILY, event_with(weight_from(first)), room)[1]
     return bytes(room[:length])
 
 
@@ -67,18 +69,18 @@ LAYERS = (
     ('frame write', lambda first: wrote(write_frame, ('short', first), 0xC3, E3_WEIGHT)),
     ('hear', lambda first: list(hear(frame_of(weight_from(first)))) == [event_with(weight_from(first))]),
     ('hear, nothing kept', lambda first: heard_with_nothing_kept(first).body == weight_from(first)),
-    ('read reply', lambda first: took(read_message, 'reply', weight_from(first))),
-    ('read request', lambda first: took(read_message, 'request', body_of(('short', first), 0xC3, b''))),
-    ('write reply', lambda first: wrote(write_message, 'reply', ('short', first), 0xC3, E3_WEIGHT)),
-    ('write request', lambda first: wrote(write_message, 'request', ('short', first), 0xC3, b'')),
+    ('read reply', lambda first: took(read_message, 'reply', FAMILY, weight_from(first))),
+    ('read request', lambda first: took(read_message, 'request', FAMILY, body_of(('short', first), 0xC3, b''))),
+    ('write reply', lambda first: wrote(write_message, 'reply', FAMILY, ('short', first), 0xC3, E3_WEIGHT)),
+    ('write request', lambda first: wrote(write_message, 'request', FAMILY, ('short', first), 0xC3, b'')),
     ('write gross', lambda first: wrote(write_record, record_from(first, 1))),
     ('write net', lambda first: wrote(write_record, record_from(first, 2))),
     ('read gross', lambda first: came_back(1, first)),
     ('read net', lambda first: came_back(2, first)),
     ('step', lambda first: step(record_bytes(record_from(first)), 0) == (0, record_from(first), 20)),
     ('weight noted', lambda first: took(weight_noted, record_from(first))),
-    ('note', lambda first: record_heard(7, 'reply', event_with(weight_from(first))) == record_from(first)),
-    ('line', lambda first: line_from(first) == b'1 weight gross %d + 000251 1 0 0\n' % first),
+    ('note', lambda first: record_heard(7, 'reply', FAMILY, event_with(weight_from(first))) == record_from(first)),
+    ('line', lambda first: line_from(first) == b'1 weight gross %d + 000251 1 0 0 gross\n' % first),
 )
 
 
@@ -178,11 +180,11 @@ def test_five_in_reading(expect):
         expect('2.12', feed(state_of('held', 5, 7, check_spoilt(body)), 0xFF)[1], Event(4, 6, 7, b''))
         # 4.9 (!) "First byte FE or FF can be lent here: 5 under either address rule"
         expect('4.9', (judge_heard(body), judge_lent(body), open_body(body)), (5, 5, (5,)))
-        expect('4.9', [read_message(role, body) for role in ROLES], [(5,), (5,)])
+        expect('4.9', [read_message(role, FAMILY, body) for role in ROLES], [(5,), (5,)])
         expect('4.9', [judge_lent(check_spoilt(body)), judge_lent(body[:2])], [4, 1])
         # 7.3 "Status 5 stays good after 02/1"
-        noted = Record(7, 3, 0, 0, 5, NO_WEIGHT)
-        expect('7.3', [record_heard(7, role, event_with(body)) for role in ROLES], [noted, noted])
+        noted = Record(7, 3, 0, 0, 5, NO_WEIGHT, 0)
+        expect('7.3', [record_heard(7, role, FAMILY, event_with(body)) for role in ROLES], [noted, noted])
         expect('7.3', (read_record(record_bytes(noted)), weight_noted(noted)), ((0, noted), (5,)))
         expect('02/1 line', line_from(first), b'1 refused 5\n')
     # 2.8 (!) Held with nothing kept: its FE keeps an FF
@@ -198,8 +200,8 @@ def test_five_in_writing(expect):
         room = bytearray(b'\xaa' * 20)
         answers = [room_needed(address, 0xC3, b''), write_frame(address, 0xC3, b'', bytearray()),
                    write_frame(address, 0xC3, b'', room), write_frame(address, 0xC3, bytes(300), room)]
-        answers += [write_message(role, address, 0x11, b'', room) for role in ROLES]
-        answers += [write_message('reply', address, 0xC3, E3_WEIGHT, room)]
+        answers += [write_message(role, FAMILY, address, 0x11, b'', room) for role in ROLES]
+        answers += [write_message('reply', FAMILY, address, 0xC3, E3_WEIGHT, room)]
         expect('02/1 writing', (answers, room), ([(5, 0)] * 7, b'\xaa' * 20))
 
 
@@ -215,13 +217,13 @@ def limit_of_01():
 
 
 def record_grid():
-    """20 bytes each: every address, the other fields right and wrong."""
+    """20 bytes each: every address, the other fields right and wrong, byte 17 zero."""
     for kind in range(5):
         for address in range(256):
             for serial in (0, 1, 0xFFFFFF):
                 for status in (0, 5, 0x91):
                     for digits in (NO_WEIGHT, b'\x51\x02\x00', b'\x5a\x02\x00'):
-                        twenty = record_bytes(Record(7, kind, address, serial, status, digits))
+                        twenty = record_bytes(Record(7, kind, address, serial, status, digits, 0))
                         yield twenty
                         yield twenty[:19] + b'\x01'
 

@@ -1,19 +1,28 @@
-"""What the cases and samples must hold, so that nothing of 02 requests 1 and 2 goes unasked."""
+"""What the cases and samples must hold, so that nothing of 02 requests 1, 2 and 4 goes unasked."""
 
 from functools import lru_cache
+from itertools import product
 
 import cases
 import cases_walker
 from addresses import BRIDGES, HIGH
 from captures import weight_from
 from check_byte import register_of
-from frame import frame_of
+from families import OF_002
+from frame import frame_of, open_body
+from good_messages import ROWS
 from line import FRESH, feed, hear, kept_bytes
 from listing import listing_of
-from message import judge_message
+from message import ROLES, judge_message
 from refusals import ACCEPTED
-from sample import older
+from sample import morning, older
 from walker import END
+from weight import is_decimal
+
+
+@lru_cache(maxsize=None)
+def every_case():
+    return tuple(cases.all_cases())
 
 
 def right_first(body):
@@ -26,9 +35,9 @@ def ended(state, byte):
     return right_first(kept_bytes(state)) if (state.phase, byte) == ('held', b'\xff') else b''
 
 
-def spoken_first(role, body):
+def spoken_first(role, family, body):
     """The first byte of a body whose message is good in its role."""
-    good = len(body) >= 3 and judge_message(role, body[1], body[2:-1]) == ACCEPTED
+    good = len(body) >= 3 and judge_message(role, family, body[1], body[2:-1]) == ACCEPTED
     return right_first(body) if good else b''
 
 
@@ -65,14 +74,14 @@ ASKED = {
     'walker_step': lambda lent, block, place: framed_at(block[place:]),
     'walk': lambda block, place: framed_in(block[place:]),
     'read_message': spoken_first,
-    'write_message': lambda role, address, *rest: short_of(address),
+    'write_message': lambda role, family, address, *rest: short_of(address),
     'read_record': lambda twenty: weighed(twenty[8], twenty[9]),
     'write_record': lambda time, kind, first, *rest: weighed(kind, first),
     'weight_noted': lambda time, kind, first, *rest: weighed(kind, first),
     'step': lambda log, place: log[place + 9:place + 10],
-    'record_heard': lambda time, role, event: right_first(event.body),
-    'write_line': lambda count, event, room: right_first(event.body),
-    'listing': framed_in,
+    'record_heard': lambda time, role, family, event: right_first(event.body),
+    'write_line': lambda count, family, event, room: right_first(event.body),
+    'listing': lambda family, capture: framed_in(capture),
 }
 BY_ROLE = ('read_message', 'write_message')  # their first input is a role
 
@@ -81,7 +90,7 @@ def test_every_layer_is_asked(expect):
     """Each address of interest stands in the cases of every layer that takes or
     meets an address, in both roles where a message is read or written."""
     asked = {}
-    for name, inputs, _ in cases.all_cases():
+    for name, inputs, _ in every_case():
         if name in ASKED:
             layer = name + ' ' + inputs[0] if name in BY_ROLE else name
             asked.setdefault(layer, set()).update(ASKED[name](*inputs))
@@ -93,13 +102,146 @@ def test_every_layer_is_asked(expect):
 def test_older_sample(expect):
     """samples/older: weights of both bridges, a stuffed check, refusals 1, 3 and 4."""
     events = list(hear(older()))
-    listing = listing_of(older()).decode('ascii')
+    listing = listing_of(OF_002, older()).decode('ascii')
     for first in BRIDGES:
         for word in ('gross', 'net'):
             expect('older', ' weight %s %d ' % (word, first) in listing, True)
     expect('older', sorted({event.number for event in events}), [0, 1, 3, 4])
     expect('older', any(event.body[-1:] == b'\xff' for event in events), True)
     expect('older', b'\xff\xfe\xc3' in older(), True)  # an address heard as FE
+
+
+FAMILIES = (0, 1, 2, 3)
+BITS = (0x00, 0x20, 0x40, 0x60)  # 6 and 5 of CON
+WEIGHT_CODES = (0xC2, 0xC3)
+BYTES_17 = (0, 1, 2, 3, 4, 255)
+
+
+def bits_of(reading):
+    """(family, bits) of a reading whose number and point are in range."""
+    if reading.number > 999_999 or reading.point > 7:
+        return []
+    return [(reading.family, reading.six << 6 | reading.five << 5)]
+
+
+def weight_bits(family, data):
+    """(family, bits) of four bytes whose digits are decimal."""
+    if len(data) != 4 or not all(map(is_decimal, data[:3])):
+        return []
+    return [(family, data[3] & 0x60)]
+
+
+def spoken_bits(family, body):
+    """(code, family, bits) of a body that carries a weight."""
+    opened = open_body(body)
+    if opened[0] != ACCEPTED or opened[2] not in WEIGHT_CODES:
+        return []
+    return [(opened[2], *bits) for bits in weight_bits(family, opened[3])]
+
+
+def in_role(role, asked):
+    return [(role, *rest) for rest in asked]
+
+
+def record_bits(time, kind, address, serial, status, weight, family, *room):
+    """(kind, byte 17, bits) of a record."""
+    return [(kind, family, status & 0x60)]
+
+
+def twenty_bits(twenty):
+    """The same of a record's bytes, and whether bytes 18 and 19 are zero."""
+    if len(twenty) < 20:
+        return []
+    return [(twenty[8], twenty[17], twenty[13] & 0x60, bool(twenty[18]), bool(twenty[19]))]
+
+
+# What a case asks its function of families and bits.
+FAMILY_ASKED = {
+    'read_reading': weight_bits,
+    'reading_is_right': bits_of,
+    'write_reading': bits_of,
+    'value': bits_of,
+    'kilograms': bits_of,
+    'mode': bits_of,
+    'difference': lambda gross, net: [(gross.family, gross.six, net.family, net.six)],
+    'read_message': lambda role, family, body: in_role(role, spoken_bits(family, body)),
+    'write_message': lambda role, family, address, code, data, room: [
+        (role, code[0], *bits) for bits in weight_bits(family, data)],
+    'record_heard': lambda time, role, family, event: in_role(role, spoken_bits(family, event.body)),
+    'write_line': lambda count, family, event, room: spoken_bits(family, event.body),
+    'write_record': record_bits,
+    'weight_noted': record_bits,
+    'read_record': twenty_bits,
+    'step': lambda log, place: twenty_bits(log[place:place + 20]),
+}
+READING_BITS = set(product(FAMILIES, BITS))
+SPOKEN_BITS = set(product(ROLES, WEIGHT_CODES, FAMILIES, BITS))
+RECORD_BITS = set(product((1, 2, 3), BYTES_17, BITS))
+TWENTY_BITS = set(product((1, 2, 3), BYTES_17, BITS, (False,), (False,)))
+# What must be asked; every function that reads, writes or uses a reading is here.
+FAMILY_WANTED = {
+    'read_reading': READING_BITS, 'reading_is_right': READING_BITS, 'write_reading': READING_BITS,
+    'value': READING_BITS, 'kilograms': READING_BITS, 'mode': READING_BITS,
+    'difference': set(product(FAMILIES, (0, 1), FAMILIES, (0, 1))),
+    'read_message': SPOKEN_BITS, 'write_message': SPOKEN_BITS, 'record_heard': SPOKEN_BITS,
+    'write_line': set(product(WEIGHT_CODES, FAMILIES, BITS)),
+    'write_record': RECORD_BITS, 'weight_noted': RECORD_BITS,
+    'read_record': TWENTY_BITS | {(kind, family, 0, *marked) for kind in (1, 2, 3) for family in FAMILIES
+                                  for marked in ((True, False), (False, True))},
+    'step': TWENTY_BITS,
+}
+
+
+def test_every_family_is_asked(expect):
+    """Every family with bits 6 and 5 clear and set, in both roles where a message
+    is spoken; every byte 17 of interest in every kind of record; and every family
+    of every other function that takes one."""
+    asked = {name: set() for name in FAMILY_ASKED}
+    listed = set()
+    for name, inputs, _ in every_case():
+        if name in FAMILY_ASKED:
+            asked[name].update(FAMILY_ASKED[name](*inputs))
+        if name == 'listing':
+            listed.add(inputs[0])
+    for name, wanted in FAMILY_WANTED.items():
+        expect('families of ' + name, sorted(wanted - asked[name]), [])
+    expect('families of listing', sorted(listed), list(FAMILIES))
+
+
+def test_every_row_in_every_family(expect):
+    """Each row of the table is read and written in each family, and is right."""
+    asked = {'read_message': set(), 'write_message': set()}
+    for name, inputs, answer in every_case():
+        if name in asked and answer[0] == ACCEPTED:
+            code = answer[2] if name == 'read_message' else inputs[3]
+            asked[name].add((inputs[0], code[0], inputs[1]))
+    wanted = {(role, code, family) for role, code in ROWS for family in FAMILIES}
+    for name, rows in asked.items():
+        expect('rows of ' + name, sorted(wanted - rows), [])
+
+
+def test_family_answers(expect):
+    """The cases meet each mode of a family, and each word that ends its weight
+    lines: of a plain one the overload digit."""
+    modes = {family: set() for family in FAMILIES}
+    words = {family: set() for family in FAMILIES}
+    for name, inputs, answer in every_case():
+        if name == 'mode' and answer[0] == ACCEPTED:
+            modes[inputs[0].family].add(answer[1:])
+        if name == 'write_line' and b' weight ' in answer[2][:answer[1]]:
+            words[inputs[1]].add(answer[2][:answer[1]].split()[-1])
+    expect('modes', {family: len(told) for family, told in modes.items()}, {0: 1, 1: 4, 2: 4, 3: 2})
+    expect('words', words, {0: {b'0', b'1'}, 1: {b'gross', b'net'}, 2: {b'scale0', b'scale1'},
+                            3: {b'gross', b'net'}})
+
+
+def test_samples_of_002(expect):
+    """Listed as 002, every weight of samples/ has its last field, and no bit 6."""
+    for wire in (morning(), older()):
+        lines = listing_of(OF_002, wire).decode('ascii').splitlines()
+        weights = [line for line in lines if ' weight ' in line]
+        expect('samples', {line.split()[-1] for line in weights}, {'gross'})
+        expect('samples', [line for line in lines if line.endswith('refused 8')], [])
 
 
 @lru_cache(maxsize=None)
@@ -209,5 +351,6 @@ def test_walks_meet_everything(expect):
     expect('walks', {(more, ended == after) for _, _, ended, more, after in walks}, {(END, True)})
 
 
-TESTS = (test_every_layer_is_asked, test_older_sample, test_walkers_start_everywhere,
+TESTS = (test_every_layer_is_asked, test_every_family_is_asked, test_every_row_in_every_family,
+         test_family_answers, test_older_sample, test_samples_of_002, test_walkers_start_everywhere,
          test_small_captures_from_every_place, test_lent_bytes_are_marked, test_walks_meet_everything)

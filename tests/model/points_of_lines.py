@@ -2,10 +2,12 @@
 
 Each expectation names its point; (!) marks the points a program can be caught
 on. Points of requests not yet built are held to what is true before them. The
-addresses of 02 request 1 have their own points, in points_of_addresses.py.
+addresses of 02 request 1 have their own points, in points_of_addresses.py, the
+families of 02 request 4 in points_of_families.py.
 """
 
 from check_byte import check_of
+from families import OF_002
 from frame import (HIGHEST_SHORT, body_of, frame_of, judge_heard, judge_lent, open_body, room_needed,
                    write_frame)
 from line import FRESH, Event, feed, feed_block, hear, kept_bytes, state_of
@@ -132,7 +134,7 @@ def test_frame_writing(expect):
 
 def test_listing(expect):
     def listed(*bodies):
-        return listing_of(b''.join(frame_of(body) for body in bodies)).decode('ascii').split('\n')
+        return listing_of(OF_002, b''.join(frame_of(body) for body in bodies)).decode('ascii').split('\n')
 
     # 5.1 (!) requests are read as replies
     lines = listed(body_of(ONE, 0xC3, b''), body_of(ONE, 0xC2, b''), body_of(ONE, 0xCD, b''),
@@ -146,35 +148,33 @@ def test_listing(expect):
     # 5.3 (!) extended addresses
     lines = listed(body_of(('serial', 255), 0xC3, b'\x51\x02\x00\x01'),
                    body_of(('serial', 0), 0xA1, b'\xff\x00\x00'))
-    expect('5.3', lines[:2], ['1 weight gross 0:255 + 000251 1 0 0', '2 message 0:0 A1'])
+    expect('5.3', lines[:2], ['1 weight gross 0:255 + 000251 1 0 0 gross', '2 message 0:0 A1'])
     # 5.4 the sign bit, six digits, the point behind them
-    expect('5.4', listed(body_of(ONE, 0xC2, b'\x00\x00\x00\x87'))[0], '1 weight net 1 - 000000 7 0 0')
+    expect('5.4', listed(body_of(ONE, 0xC2, b'\x00\x00\x00\x87'))[0], '1 weight net 1 - 000000 7 0 0 gross')
     # 5.5 (!) before 02/7 an overloaded weight's digits are printed, and it counts
     expect('5.5', listed(body_of(ONE, 0xC3, b'\x00\x06\x00\x18')),
-           ['1 weight gross 1 + 000600 0 1 1', 'total 1 weights 1 refused 0', ''])
-    # 5.6 (!), 5.7 before 02/4 bits 6 and 5 are not listed, and there is no family
-    expect('5.6', listed(body_of(ONE, 0xC3, b'\x51\x02\x00\x61'))[0], '1 weight gross 1 + 000251 1 0 0')
+           ['1 weight gross 1 + 000600 0 1 1 gross', 'total 1 weights 1 refused 0', ''])
     # a line alone is the line in its listing
     event = next(hear(frame_of(body_of(ONE, 0xCD, b''))))
     room = bytearray(b'\xaa' * 16)
-    expect('line', (write_line(1, event, room), bytes(room)), ((0, 15), b'1 message 1 CD\n\xaa'))
-    expect('line', write_line(10, event, bytearray(15)), (9, 0))
+    expect('line', (write_line(1, OF_002, event, room), bytes(room)), ((0, 15), b'1 message 1 CD\n\xaa'))
+    expect('line', write_line(10, OF_002, event, bytearray(15)), (9, 0))
     room = bytearray(27)
     expect('line', (write_total(3, 2, 1, room), bytes(room)), ((9, 0), bytes(27)))
     expect('line', write_total(3, 2, 1, bytearray(28)), (0, 28))
     # refusals 1 to 8 list, handed in as events too; any other is 8, ahead of 9, and the room stands
     for number in range(1, 9):
         room = bytearray(12)
-        expect('met on the line', (write_line(1, Event(number, 9, 4, b''), room), bytes(room)),
+        expect('met on the line', (write_line(1, OF_002, Event(number, 9, 4, b''), room), bytes(room)),
                ((0, 12), b'1 refused %d\n' % number))
     for number in (9, 10, 11):
         for length in (0, 12, 13, 100):
             room = bytearray(b'\xaa' * length)
-            expect('not met on the line', (write_line(1, Event(number, 9, 4, b''), room), bytes(room)),
+            expect('not met on the line', (write_line(1, OF_002, Event(number, 9, 4, b''), room), bytes(room)),
                    ((8, 0), b'\xaa' * length))
     # 5.8 (!) ends
-    expect('5.8', listing_of(b''), b'total 0 weights 0 refused 0\n')
-    expect('5.8', listing_of(b'\x01\x02\xfe\xff\xff\xff'), b'total 0 weights 0 refused 0\n')
+    expect('5.8', listing_of(OF_002, b''), b'total 0 weights 0 refused 0\n')
+    expect('5.8', listing_of(OF_002, b'\x01\x02\xfe\xff\xff\xff'), b'total 0 weights 0 refused 0\n')
 
 
 TESTS = (test_full_body, test_held, test_states_handed_in, test_counts, test_lent_bodies,

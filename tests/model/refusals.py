@@ -13,10 +13,10 @@ CHECK_WRONG = 4      # check not 0
 ADDRESS_WRONG = 5    # 02 request 1: a short address outside 01 to FD (01 said 9F), or a serial too large
 CODE_UNKNOWN = 6     # code not in the table for that role
 LENGTH_WRONG = 7     # data length wrong for the code
-FIELD_WRONG = 8      # a field outside its values
+FIELD_WRONG = 8      # a field outside its values; 02 request 4: also family 002 with bit 6 set
 ROOM_SHORT = 9       # lent room shorter than needed
 LOG_LEFT_OVER = 10   # log bytes left over, 1 to 19
-RECORD_WRONG = 11    # log record breaks a rule
+RECORD_WRONG = 11    # log record breaks a rule; 02 request 4: also one of byte 17
 
 ALL = (BODY_TOO_SHORT, BODY_TOO_LONG, STRAY_BYTE, CHECK_WRONG, ADDRESS_WRONG, CODE_UNKNOWN,
        LENGTH_WRONG, FIELD_WRONG, ROOM_SHORT, LOG_LEFT_OVER, RECORD_WRONG)

@@ -1,4 +1,4 @@
-"""The model tests itself: E1 to E8, the paper's listing, the open points, 02 requests 1 and 2.
+"""The model tests itself: E1 to E8, the paper's listing, the open points, 02 requests 1, 2 and 4.
 
     python3 tests/model/selftest.py
 
@@ -8,6 +8,7 @@ prints one line and exits 0, or says what failed and exits 1.
 import sys
 
 import captures
+import families
 import frame
 import line
 import listing
@@ -15,6 +16,7 @@ import log
 import message
 import points_of_addresses
 import points_of_cases
+import points_of_families
 import points_of_lines
 import points_of_messages
 import points_of_walks
@@ -35,21 +37,25 @@ def one_event(wire):
 
 def test_judged_examples(expect):
     for point, code, text in (('E1', 0xC3, 'ff01c3e3ffff'), ('E2', 0xC2, 'ff01c28affff')):
-        room = bytearray(6)
-        expect(point, message.write_message('request', ('short', 1), code, b'', room), (0, 6))
-        expect(point, room.hex(), text)
         event = one_event(wire_of(text))
-        expect(point, message.read_message('request', event.body), (0, ('short', 1), code, b'', ()))
+        for family in families.ALL:
+            room = bytearray(6)
+            expect(point, message.write_message('request', family, ('short', 1), code, b'', room), (0, 6))
+            expect(point, room.hex(), text)
+            expect(point, message.read_message('request', family, event.body),
+                   (0, ('short', 1), code, b'', ()))
     for point, text, tenths in (('E3', 'ff01c351020001deffff', 251_000_000),
                                 ('E4', 'ff01c20500009132ffff', -5_000_000)):
         event = one_event(wire_of(text))
         expect(point, (event.number, event.wire, event.count), (0, 10, 7))
-        answer = message.read_message('reply', event.body)
-        expect(point, value(answer[4][0]), (0, tenths))
+        for family in families.ALL:
+            answer = message.read_message('reply', family, event.body)
+            expect(point, value(answer[4][0]), (0, tenths))
         expect(point, frame.frame_of(event.body).hex(), text)
     event = one_event(wire_of('ff01a1fffe000039ffff'))
-    expect('E5', message.read_message('reply', event.body),
-           (0, ('short', 1), 0xA1, b'\xff\x00\x00', (255,)))
+    for family in families.ALL:
+        expect('E5', message.read_message('reply', family, event.body),
+               (0, ('short', 1), 0xA1, b'\xff\x00\x00', (255,)))
     expect('E5', frame.room_needed(('short', 1), 0xA1, b'\xff\x00\x00'), (0, 10))
     expect('E6', one_event(wire_of('ff01c3e2ffff')), (4, 6, 3, b''))
     expect('E6', one_event(wire_of('ff01ffff')), (1, 4, 1, b''))
@@ -67,9 +73,13 @@ def test_longest_body(expect):
 
 
 def test_paper_listing(expect):
+    """01's listing is that of plain bits; 02 request 4 adds the last field."""
     capture = wire_of('ff01c351020001deffff' 'ff01c20500009132ffff' 'ff01c3e2ffff')
-    expect('listing', listing.listing_of(capture),
+    expect('listing', listing.listing_of(families.PLAIN, capture),
            b'1 weight gross 1 + 000251 1 0 0\n2 weight net 1 - 000005 1 1 0\n'
+           b'3 refused 4\ntotal 3 weights 2 refused 1\n')
+    expect('listing', listing.listing_of(families.OF_002, capture),
+           b'1 weight gross 1 + 000251 1 0 0 gross\n2 weight net 1 - 000005 1 1 0 gross\n'
            b'3 refused 4\ntotal 3 weights 2 refused 1\n')
 
 
@@ -80,8 +90,9 @@ def test_misreadings(expect):
     expect('FF FE FE is FF, FE', frame.open_body(event.body)[3], b'\xff\xfe')
     # The middle of a frame, its first byte behind a stuffed FF, ends well by chance.
     expect('late listener', list(line.hear(b'\xff\xfe\x01\xc3\xe3\xff\xff')), [])
-    expect('unread weight', log.record_heard(5, 'reply', line.Event(4, 6, 3, b'')),
-           log.Record(5, 3, 0, 0, 4, b'\x00\x00\x00'))
+    for family in families.ALL:
+        expect('unread weight', log.record_heard(5, 'reply', family, line.Event(4, 6, 3, b'')),
+               log.Record(5, 3, 0, 0, 4, b'\x00\x00\x00', 0))
 
 
 def remainder(sent):
@@ -138,7 +149,7 @@ def test_random_source(expect):
 TESTS = (test_judged_examples, test_longest_body, test_paper_listing, test_misreadings, test_check,
          test_frames_handed_back, test_blocks, test_random_source) \
     + points_of_lines.TESTS + points_of_messages.TESTS + points_of_weights.TESTS \
-    + points_of_addresses.TESTS + points_of_walks.TESTS + points_of_cases.TESTS
+    + points_of_addresses.TESTS + points_of_walks.TESTS + points_of_families.TESTS + points_of_cases.TESTS
 
 
 def main():

@@ -25,7 +25,7 @@ from refusals import ACCEPTED
 from walker import END
 
 LONGEST = 4096  # of a text, and of a room
-FIRST_WRITER = 26  # from this number on a function is lent room: the last of its inputs
+FIRST_WRITER = 27  # from this number on a function is lent room: the last of its inputs
 PHASES = cases_line.PHASES
 BLOCK_SIZES = (0, 1, 2, 7, 64)  # of a capture; 0 is the whole of it at once
 NOTHING, TOLD, REFUSED = 0, 1, 2  # how an answer of three kinds starts
@@ -71,9 +71,18 @@ def role(of):
     return bytes([message.ROLES.index(of)])
 
 
+def family_byte(of):
+    """One byte, its number: 0 plain, 1 to 3 for 000 to 002."""
+    return bytes([of])
+
+
 def reading(of):
-    """Minus, four bytes of the number, point, bit 6, bit 5, settled, overload."""
+    """Minus, four bytes of the number, point, bit 6, bit 5, settled, overload, family."""
     return bytes([of.minus]) + word(of.number) + bytes(of[2:])
+
+
+def four_to_read(family, four):
+    return numbers_alone(family_byte(family), four)
 
 
 def readings_alone(*readings):
@@ -106,8 +115,12 @@ def to_write(of, code, data):
     return data, address(of) + code
 
 
-def message_to_write(spoken, of, code, data):
-    return data, role(spoken) + address(of) + code
+def body_to_read(spoken, family, body):
+    return body, role(spoken) + family_byte(family)
+
+
+def message_to_write(spoken, family, of, code, data):
+    return data, role(spoken) + family_byte(family) + address(of) + code
 
 
 def event(of):
@@ -115,16 +128,17 @@ def event(of):
     return bytes([of.number]) + long(of.wire) + long(of.count)
 
 
-def to_note(time, spoken, of):
-    return of.body, long(time) + role(spoken) + event(of)
+def to_note(time, spoken, family, of):
+    return of.body, long(time) + role(spoken) + family_byte(family) + event(of)
 
 
-def to_list(count, of):
-    return of.body, long(count) + event(of)
+def to_list(count, family, of):
+    return of.body, long(count) + family_byte(family) + event(of)
 
 
-def record(time, kind, short, serial, status, weight):
-    return numbers_alone(long(time), bytes([kind, short]), word(serial), bytes([status]), weight)
+def record(time, kind, short, serial, status, weight, byte_17):
+    return numbers_alone(long(time), bytes([kind, short]), word(serial), bytes([status]), weight,
+                         bytes([byte_17]))
 
 
 # Answers: what is told, for `words_of`.
@@ -256,7 +270,7 @@ FRAME_RUN = {
     'judge_lent': [Layout(5, text_alone, as_it_is)],
     'open_body': [Layout(6, text_alone, or_refused(opened))],
     'room_needed': [Layout(7, to_write, or_refused(as_it_is))],
-    'write_frame': [Layout(26, to_write, as_it_is)],
+    'write_frame': [Layout(27, to_write, as_it_is)],
 }
 LINE_RUN = {
     'feed': [Layout(8, byte_to_take, lambda after, given: fed_told(after, 1, given))],
@@ -271,28 +285,29 @@ WALKER_RUN = {
     'walk': [Layout(25, lambda block, at: (block, long(at)), walked)],
 }
 WEIGHT_RUN = {
-    'read_reading': [Layout(12, numbers_alone, as_it_is)],
+    'read_reading': [Layout(12, four_to_read, as_it_is)],
     'reading_is_right': [Layout(13, readings_alone, as_it_is)],
     'write_reading': [Layout(14, readings_alone, as_it_is)],
     'value': [Layout(15, readings_alone, or_refused(signed))],
     'difference': [Layout(16, readings_alone, or_refused(signed))],
     'kilograms': [Layout(17, readings_alone, as_it_is)],
+    'mode': [Layout(26, readings_alone, as_it_is)],
     'inputs_on': [Layout(18, numbers_alone, as_it_is)],
 }
 MESSAGE_RUN = {
-    'read_message': [Layout(19, lambda spoken, body: (body, role(spoken)), or_refused(received))],
-    'write_message': [Layout(27, message_to_write, as_it_is)],
+    'read_message': [Layout(19, body_to_read, or_refused(received))],
+    'write_message': [Layout(28, message_to_write, as_it_is)],
 }
 LOG_RUN = {
     'read_record': [Layout(20, text_alone, as_it_is)],
     'record_heard': [Layout(21, to_note, noted)],
     'step': [Layout(22, lambda log, at: (log, long(at)), stepped)],
     'weight_noted': [Layout(23, record, as_it_is)],
-    'write_record': [Layout(28, record, as_it_is)],
+    'write_record': [Layout(29, record, as_it_is)],
 }
 LISTING_RUN = {
-    'write_line': [Layout(29, to_list, as_it_is)],
-    'write_total': [Layout(30, lambda *counts: numbers_alone(*map(long, counts)), as_it_is)],
+    'write_line': [Layout(30, to_list, as_it_is)],
+    'write_total': [Layout(31, lambda *counts: numbers_alone(*map(long, counts)), as_it_is)],
 }
 
 # The parts that are run. `stuffed` and `frame_of` have no public function of their own

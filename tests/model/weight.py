@@ -1,21 +1,27 @@
 """Weights as exact numbers.
 
 "A reading keeps the sign bit, the number 0 to 999,999, the point and the
-flags, so its four bytes come back exactly." Bits 6 and 5 are "carried as two
-plain bits (the documents disagree on them)".
+flags, so its four bytes come back exactly." 02 request 4: "A reading now
+carries its terminal family"; what its bits 6 and 5 are called is asked of
+`families.TABLE`.
 """
 
 from collections import namedtuple
 from fractions import Fraction
 import struct
 
+import families
 from refusals import ACCEPTED, FIELD_WRONG, refused
 
 HIGHEST_NUMBER = 999_999
 HIGHEST_POINT = 7
 TENTHS_IN_KILOGRAM = 10_000_000  # tenths of a milligram
 
-Reading = namedtuple('Reading', 'minus number point six five settled overload')
+Reading = namedtuple('Reading', 'minus number point six five settled overload family')
+
+# What the loadmaster asks of a reading, in the order in which `mode` answers it.
+ASKED = (families.NET_MODE, families.SCALE_NUMBER, families.KEY_CODE, families.EVENT)
+NO_SUCH_BIT, BIT_CLEAR, BIT_SET = 0, 1, 2
 
 
 def is_decimal(byte):
@@ -33,26 +39,31 @@ def packed(number):
     return (number // 10) << 4 | number % 10
 
 
-def read_reading(four):
-    """W0 W1 W2 CON as a reading: (0, reading) or (8,). W0 is the low byte."""
+def read_reading(family, four):
+    """W0 W1 W2 CON as a reading: (0, reading) or (8,). W0 is the low byte.
+    "The caller says the family per line"."""
     low, middle, high, status = four
     if not (is_decimal(low) and is_decimal(middle) and is_decimal(high)):
         return refused(FIELD_WRONG)
     number = two_digits(high) * 10_000 + two_digits(middle) * 100 + two_digits(low)
-    return (ACCEPTED, Reading(
+    reading = Reading(
         minus=status >> 7 & 1, number=number, point=status & 7,
         six=status >> 6 & 1, five=status >> 5 & 1,
-        settled=status >> 4 & 1, overload=status >> 3 & 1))
+        settled=status >> 4 & 1, overload=status >> 3 & 1, family=family)
+    return (ACCEPTED, reading) if reading_is_right(reading) else refused(FIELD_WRONG)
 
 
 def reading_is_right(reading):
     """"A reading handed in with a number above 999,999 or a point above 7 is
-    refusal 8 wherever it is used." """
-    return reading.number <= HIGHEST_NUMBER and reading.point <= HIGHEST_POINT
+    refusal 8 wherever it is used." 02 request 4: "8 also for family 002 with
+    bit 6 set", wherever too (open point 6.3)."""
+    return (reading.number <= HIGHEST_NUMBER and reading.point <= HIGHEST_POINT
+            and families.six_is_right(reading.family, reading.six))
 
 
 def write_reading(reading):
-    """A reading as its four bytes: (0, bytes) or (8,)."""
+    """A reading as its four bytes: (0, bytes) or (8,). Whatever its family,
+    "the four bytes still come back exactly"."""
     if not reading_is_right(reading):
         return refused(FIELD_WRONG)
     status = (reading.minus << 7 | reading.six << 6 | reading.five << 5
@@ -72,7 +83,8 @@ def value(reading):
 
 def difference(gross, net):
     """"Gross less net is a signed difference and may be negative." Either
-    reading may be refused with 8 (open point 6.1)."""
+    reading may be refused with 8 (open point 6.1). Two families are not
+    refused (open point 6.5)."""
     for reading in (gross, net):
         if not reading_is_right(reading):
             return refused(FIELD_WRONG)
@@ -107,3 +119,22 @@ def kilograms(reading):
 def float_bits(number):
     """A float's 64 bits as eight bytes, top byte first: +0.0 and -0.0 differ."""
     return struct.pack('>d', number)
+
+
+def bit_called(name, reading):
+    """Whether the bit of that name is set in a reading, if its family has one."""
+    called = families.TABLE[reading.family]
+    for own_name, bit in ((called.six, reading.six), (called.five, reading.five)):
+        if own_name == name:
+            return BIT_SET if bit else BIT_CLEAR
+    return NO_SUCH_BIT
+
+
+def mode(reading):
+    """"The loadmaster asks whether a weight was net mode or the second
+    platform": (0, net mode, platform, key code, event) or (8,). Each of the
+    four is 0 where the family has no such bit, 1 for no or scale 0, 2 for yes
+    or scale 1. In the plain family "there is no mode word" (open point 6.4)."""
+    if not reading_is_right(reading):
+        return refused(FIELD_WRONG)
+    return (ACCEPTED,) + tuple(bit_called(name, reading) for name in ASKED)

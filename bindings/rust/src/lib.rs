@@ -4,8 +4,9 @@
 //! [`Refusal`] with the rules paper's number. No weight here has a default.
 //!
 //! ```
-//! use quay::{read_message, Event, Load, Reader, Role, Says};
+//! use quay::{read_message, Event, Family, Load, Reader, Role, Says};
 //!
+//! const FAMILY: Family = Family::Of002; // of the line's terminals, said once
 //! // A reply of 25.1 kg gross, not settled, cut in two; and a frame whose check is wrong.
 //! let blocks: [&[u8]; 2] = [
 //!     &[0xFF, 0x01, 0xC3, 0x51, 0x02],
@@ -17,7 +18,7 @@
 //!     let mut events = reader.feed(block);
 //!     while let Some(event) = events.next() {
 //!         match event {
-//!             Event::Frame { body, .. } => match read_message(Role::Reply, body).map(|message| message.says) {
+//!             Event::Frame { body, .. } => match read_message(Role::Reply, FAMILY, body).map(|message| message.says) {
 //!                 Ok(Says::Weight { load: Load::Gross, weight }) => heard.push(weight.kilograms()),
 //!                 Ok(_) => {}
 //!                 Err(why) => heard.push(Err(why)),
@@ -33,6 +34,7 @@
 #![warn(missing_docs)]
 
 mod addresses;
+mod families;
 mod line;
 mod listing;
 mod log;
@@ -44,6 +46,7 @@ mod weights;
 mod writing;
 
 pub use addresses::{Address, Role};
+pub use families::{Family, Mode};
 pub use line::{BodyPlace, Event, Events, Phase, Place, Reader, WirePlace, LONGEST_BODY};
 pub use listing::{list_event, list_total, Entry, Listed, Total, LONGEST_LINE};
 pub use log::{read_record, record_heard, records, step, write_record, Broken, Noted, Record, Records, RECORD_LENGTH};

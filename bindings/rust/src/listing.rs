@@ -1,4 +1,5 @@
 //! The listing: events as lines of text, and the total line.
+use crate::families::Family;
 use crate::line::Event;
 use crate::raw;
 use crate::refusal::{judged, other_version, Refusal};
@@ -50,21 +51,22 @@ impl Total {
     }
 }
 
-/// Writes the line of an event into lent room. The event is read as a reply. If the line is refused by 9, the room is as it stood.
+/// Writes the line of an event into lent room. The event is read as a reply of a line of a family. The last word of a weight's line is its
+/// [`Mode`](crate::Mode), if the family has one. If the line is refused by 9, the room is as it stood.
 /// Events are numbered from 1. The body of a frame is judged again, check and all: bytes that nobody heard list as the refusal they earn.
 ///
 /// ```
-/// use quay::{list_event, Entry, Event, Refusal, WirePlace};
+/// use quay::{list_event, Entry, Event, Family, Refusal, WirePlace};
 /// let body = [0x01, 0xC3, 0x51, 0x02, 0x00, 0x01, 0xDE];
 /// let mut room = [0; quay::LONGEST_LINE];
-/// let listed = list_event(1, Event::Frame { wire: WirePlace(10), body: &body }, &mut room)?;
-/// assert_eq!(&room[..listed.length], b"1 weight gross 1 + 000251 1 0 0\n");
+/// let listed = list_event(1, Family::Of002, Event::Frame { wire: WirePlace(10), body: &body }, &mut room)?;
+/// assert_eq!(&room[..listed.length], b"1 weight gross 1 + 000251 1 0 0 gross\n");
 /// assert_eq!(listed.entry, Entry::Weight);
 /// # Ok::<(), Refusal>(())
 /// ```
-pub fn list_event(number: u64, event: Event<'_>, room: &mut [u8]) -> Result<Listed, Refusal> {
+pub fn list_event(number: u64, family: Family, event: Event<'_>, room: &mut [u8]) -> Result<Listed, Refusal> {
     let (event, body) = event.crossing();
-    let listed = raw::list_event(number, event, body, room);
+    let listed = raw::list_event(number, family.number(), event, body, room);
     judged(listed.refusal)?;
     let entry = match listed.entry {
         1 => Entry::Weight,

@@ -3,6 +3,7 @@ use core::error::Error;
 use core::fmt;
 
 use crate::addresses::{Address, Role};
+use crate::families::Family;
 use crate::line::Event;
 use crate::messages::Load;
 use crate::raw;
@@ -15,8 +16,9 @@ pub const RECORD_LENGTH: usize = 20;
 
 const REFUSED: u8 = 3;
 
-/// The weight byte of a record that is no weighing.
+/// The weight byte of a record that is no weighing, and its family.
 const NO_DIGITS: u8 = 255;
+const NO_FAMILY: u8 = 0;
 
 /// A record of a log.
 #[derive(Clone, Copy, Debug, PartialEq, Eq, Hash)]
@@ -36,7 +38,7 @@ pub enum Noted {
         load: Load,
         /// By whom.
         address: Address,
-        /// Its four bytes.
+        /// Its four bytes, and the terminal's family: plain in a record from before there were families.
         weight: Weight,
     },
     /// A refusal met on the line, 1 to 8.
@@ -66,8 +68,9 @@ impl Record {
         match self.noted {
             Noted::Weighed { load, address, weight } => {
                 let (address, serial) = address.crossing();
-                let [w0, w1, w2, status] = weight.0;
-                raw::QuayRecord { time, serial, kind: load as u8, address, status, w0, w1, w2, refusal: 0 }
+                let [w0, w1, w2, status] = weight.bytes;
+                let family = weight.family.number();
+                raw::QuayRecord { time, serial, kind: load as u8, address, status, w0, w1, w2, family, refusal: 0 }
             }
             Noted::Refused(why) => raw::QuayRecord {
                 time,
@@ -78,6 +81,7 @@ impl Record {
                 w0: NO_DIGITS,
                 w1: NO_DIGITS,
                 w2: NO_DIGITS,
+                family: NO_FAMILY,
                 refusal: 0,
             },
         }
@@ -92,7 +96,7 @@ impl Record {
             (_, Some(load), _) => Noted::Weighed {
                 load,
                 address: Address::crossed(item.address, item.serial),
-                weight: Weight([item.w0, item.w1, item.w2, item.status]),
+                weight: Weight::new(Family::crossed(item.family), [item.w0, item.w1, item.w2, item.status]),
             },
             (kind, _, _) => other_version("kind of record", kind),
         };
@@ -115,12 +119,12 @@ pub fn write_record(record: Record, room: &mut [u8]) -> Result<usize, Refusal> {
     length_written(raw::write_record(record.crossing(), room))
 }
 
-/// Reads the record of 20 bytes, or refuses by 11.
+/// Reads the record of 20 bytes, or refuses by 11. Its byte 17 is the family: 0 in a record from before there were families.
 ///
 /// ```
-/// use quay::{read_record, Address, Load, Noted, Refusal, Weight};
-/// let mut bytes = [1, 0, 0, 0, 0, 0, 0, 0, 1, 2, 0, 0, 0, 0x10, 0x40, 0x84, 0x01, 0, 0, 0];
-/// let weight = Weight([0x40, 0x84, 0x01, 0x10]);
+/// use quay::{read_record, Address, Family, Load, Noted, Refusal, Weight};
+/// let mut bytes = [1, 0, 0, 0, 0, 0, 0, 0, 1, 2, 0, 0, 0, 0x10, 0x40, 0x84, 0x01, 3, 0, 0];
+/// let weight = Weight::new(Family::Of002, [0x40, 0x84, 0x01, 0x10]);
 /// let noted = Noted::Weighed { load: Load::Gross, address: Address::Short(2), weight };
 /// assert_eq!(read_record(&bytes)?.noted, noted);
 /// bytes[14] = 0x4A; // a half that is no digit
@@ -200,20 +204,20 @@ impl Iterator for Records<'_> {
 
 impl core::iter::FusedIterator for Records<'_> {}
 
-/// The record that an event makes, read in a role. A message that is no weight reply makes none. What was refused on the line, or in
-/// its message, makes a record of the refusal. A line meets no refusal above 8: an event with one is refused by 8.
+/// The record that an event makes, read in a role, of a line of a family. A message that is no weight reply makes none. What was refused on
+/// the line, or in its message, makes a record of the refusal. A line meets no refusal above 8: an event with one is refused by 8.
 ///
 /// ```
-/// use quay::{record_heard, Event, Noted, Record, Refusal, Role, WirePlace};
+/// use quay::{record_heard, Event, Family, Noted, Record, Refusal, Role, WirePlace};
 /// // A weight with a half that is no digit: its frame is good, and its message is not.
 /// let mut room = [0; 16];
 /// let length = quay::write_frame(quay::Address::Short(1), 0xC3, &[0x0A, 0, 0, 0], &mut room)?;
 /// let body = &room[1..length - 2];
-/// let heard = record_heard(7, Role::Reply, Event::Frame { wire: WirePlace(10), body });
+/// let heard = record_heard(7, Role::Reply, Family::Of002, Event::Frame { wire: WirePlace(10), body });
 /// assert_eq!(heard, Ok(Some(Record { time: 7, noted: Noted::Refused(Refusal::FieldOutside) })));
 /// # Ok::<(), Refusal>(())
 /// ```
-pub fn record_heard(time: u64, role: Role, event: Event<'_>) -> Result<Option<Record>, Refusal> {
+pub fn record_heard(time: u64, role: Role, family: Family, event: Event<'_>) -> Result<Option<Record>, Refusal> {
     let (event, body) = event.crossing();
-    Record::crossed(raw::record_heard(time, role as u8, event, body))
+    Record::crossed(raw::record_heard(time, role as u8, family.number(), event, body))
 }

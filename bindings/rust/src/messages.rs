@@ -1,5 +1,6 @@
 //! Messages: what a body says.
 use crate::addresses::{Address, Role};
+use crate::families::Family;
 use crate::raw;
 use crate::refusal::{judged, other_version, Refusal};
 use crate::weights::Weight;
@@ -39,7 +40,7 @@ pub enum Says<'a> {
     Weight {
         /// Gross or net.
         load: Load,
-        /// Its four bytes.
+        /// Its four bytes, and the family of the line.
         weight: Weight,
     },
     /// The inputs.
@@ -84,20 +85,21 @@ pub struct Message<'a> {
     pub says: Says<'a>,
 }
 
-/// Reads a body in a role. Refusals: 2, 1, 4, 5, 6, 7, 8 in that order.
+/// Reads a body in a role, of a line of a family. Refusals: 2, 1, 4, 5, 6, 7, 8 in that order.
 ///
 /// ```
-/// use quay::{read_message, Address, Load, Refusal, Role, Says, Weight};
+/// use quay::{read_message, Address, Family, Load, Refusal, Role, Says, Weight};
 /// // Minus 0.5 kg net from address 1.
-/// let message = read_message(Role::Reply, &[0x01, 0xC2, 0x05, 0x00, 0x00, 0x91, 0x32])?;
+/// let message = read_message(Role::Reply, Family::Of002, &[0x01, 0xC2, 0x05, 0x00, 0x00, 0x91, 0x32])?;
 /// assert_eq!(message.address, Address::Short(1));
-/// assert_eq!(message.says, Says::Weight { load: Load::Net, weight: Weight([0x05, 0x00, 0x00, 0x91]) });
+/// let weight = Weight::new(Family::Of002, [0x05, 0x00, 0x00, 0x91]);
+/// assert_eq!(message.says, Says::Weight { load: Load::Net, weight });
 /// // A request of a weight is no reply.
-/// assert_eq!(read_message(Role::Reply, &[0x01, 0xC3, 0xE3]), Err(Refusal::LengthWrong));
+/// assert_eq!(read_message(Role::Reply, Family::Of002, &[0x01, 0xC3, 0xE3]), Err(Refusal::LengthWrong));
 /// # Ok::<(), Refusal>(())
 /// ```
-pub fn read_message(role: Role, body: &[u8]) -> Result<Message<'_>, Refusal> {
-    let message = raw::read_message(role as u8, body);
+pub fn read_message(role: Role, family: Family, body: &[u8]) -> Result<Message<'_>, Refusal> {
+    let message = raw::read_message(role as u8, family.number(), body);
     judged(message.refusal)?;
     Ok(Message {
         address: Address::crossed(message.short, message.serial),
@@ -127,10 +129,8 @@ fn said(what: raw::QuayWhat, body: &[u8]) -> Says<'_> {
 }
 
 fn weighed<'a>(what: raw::QuayWhat) -> Says<'a> {
-    let raw::QuayWeight { w0, w1, w2, con } = what.weight;
-    let weight = Weight([w0, w1, w2, con]);
     match Load::of_number(what.load) {
-        Some(load) => Says::Weight { load, weight },
+        Some(load) => Says::Weight { load, weight: Weight::crossed(what.weight) },
         None => other_version("load", what.load),
     }
 }

@@ -44,6 +44,7 @@ pub struct QuayWeight {
     pub w1: u8,
     pub w2: u8,
     pub con: u8,
+    pub family: u8,
 }
 
 #[derive(Clone, Copy, Debug)]
@@ -56,6 +57,7 @@ pub struct QuayReading {
     pub bit5: u8,
     pub settled: u8,
     pub overload: u8,
+    pub family: u8,
     pub refusal: u8,
 }
 
@@ -108,6 +110,7 @@ pub struct QuayRecord {
     pub w0: u8,
     pub w1: u8,
     pub w2: u8,
+    pub family: u8,
     pub refusal: u8,
 }
 
@@ -138,13 +141,13 @@ laid_out!(QuayPlace, 24: wire 0, kept 8, phase 16);
 laid_out!(QuayEvent, 24: wire 0, kept 8, kind 16, refusal 17);
 laid_out!(QuayWent, 64: place 0, event 24, used 48, refusal 56);
 laid_out!(QuayWritten, 16: length 0, refusal 8);
-laid_out!(QuayWeight, 4: w0 0, w1 1, w2 2, con 3);
-laid_out!(QuayReading, 12: number 0, point 4, minus 5, bit6 6, bit5 7, settled 8, overload 9, refusal 10);
+laid_out!(QuayWeight, 5: w0 0, w1 1, w2 2, con 3, family 4);
+laid_out!(QuayReading, 12: number 0, point 4, minus 5, bit6 6, bit5 7, settled 8, overload 9, family 10, refusal 11);
 laid_out!(QuayValue, 16: value 0, refusal 8);
 laid_out!(QuayKilograms, 16: kilograms 0, refusal 8);
-laid_out!(QuayWhat, 40: number 0, from 8, to 16, on 24, weight 28, load 32, says 33);
+laid_out!(QuayWhat, 40: number 0, from 8, to 16, on 24, weight 28, load 33, says 34);
 laid_out!(QuayMessage, 64: what 0, from 40, to 48, serial 56, short 60, code 61, refusal 62);
-laid_out!(QuayRecord, 24: time 0, serial 8, kind 12, address 13, status 14, w0 15, w1 16, w2 17, refusal 18);
+laid_out!(QuayRecord, 24: time 0, serial 8, kind 12, address 13, status 14, w0 15, w1 16, w2 17, family 18, refusal 19);
 laid_out!(QuayStepped, 32: item 0, next 24);
 laid_out!(QuayListed, 16: length 0, entry 8, refusal 9);
 
@@ -153,8 +156,8 @@ laid_out!(QuayListed, 16: length 0, entry 8, refusal 9);
 extern "C" {
     fn quay_listen(place: QuayPlace, block: *const u8, block_length: usize, body: *mut [u8; 255]) -> QuayWent;
     fn quay_write_frame(short: u8, serial: u32, code: u8, data: *const u8, data_length: usize, room: *mut u8, room_length: usize) -> QuayWritten;
-    fn quay_write_message(role: u8, short: u8, serial: u32, code: u8, data: *const u8, data_length: usize, room: *mut u8, room_length: usize) -> QuayWritten;
-    fn quay_read_message(role: u8, body: *const u8, body_length: usize) -> QuayMessage;
+    fn quay_write_message(role: u8, family: u8, short: u8, serial: u32, code: u8, data: *const u8, data_length: usize, room: *mut u8, room_length: usize) -> QuayWritten;
+    fn quay_read_message(role: u8, family: u8, body: *const u8, body_length: usize) -> QuayMessage;
     fn quay_read_weight(weight: QuayWeight) -> QuayReading;
     fn quay_value(weight: QuayWeight) -> QuayValue;
     fn quay_difference(gross: QuayWeight, net: QuayWeight) -> QuayValue;
@@ -162,8 +165,8 @@ extern "C" {
     fn quay_write_record(item: QuayRecord, room: *mut u8, room_length: usize) -> QuayWritten;
     fn quay_read_record(bytes: *const u8, bytes_length: usize) -> QuayRecord;
     fn quay_step(log: *const u8, log_length: usize, place: usize) -> QuayStepped;
-    fn quay_record_heard(time: u64, role: u8, event: QuayEvent, body: *const u8, body_length: usize) -> QuayRecord;
-    fn quay_list_event(number: u64, event: QuayEvent, body: *const u8, body_length: usize, room: *mut u8, room_length: usize) -> QuayListed;
+    fn quay_record_heard(time: u64, role: u8, family: u8, event: QuayEvent, body: *const u8, body_length: usize) -> QuayRecord;
+    fn quay_list_event(number: u64, family: u8, event: QuayEvent, body: *const u8, body_length: usize, room: *mut u8, room_length: usize) -> QuayListed;
     fn quay_list_total(total: u64, weights: u64, refused: u64, room: *mut u8, room_length: usize) -> QuayWritten;
 }
 
@@ -178,35 +181,35 @@ pub fn write_frame(short: u8, serial: u32, code: u8, data: &[u8], room: &mut [u8
     unsafe { quay_write_frame(short, serial, code, data.as_ptr(), data.len(), room_at, room_length) }
 }
 
-pub fn write_message(role: u8, (short, serial): (u8, u32), code: u8, data: &[u8], room: &mut [u8]) -> QuayWritten {
+pub fn write_message(role: u8, family: u8, (short, serial): (u8, u32), code: u8, data: &[u8], room: &mut [u8]) -> QuayWritten {
     let (data_at, data_length) = (data.as_ptr(), data.len());
     let (room_at, room_length) = (room.as_mut_ptr(), room.len());
     // SAFETY: both are borrowed with their own lengths, and nobody else holds the room.
-    unsafe { quay_write_message(role, short, serial, code, data_at, data_length, room_at, room_length) }
+    unsafe { quay_write_message(role, family, short, serial, code, data_at, data_length, room_at, room_length) }
 }
 
-pub fn read_message(role: u8, body: &[u8]) -> QuayMessage {
+pub fn read_message(role: u8, family: u8, body: &[u8]) -> QuayMessage {
     // SAFETY: the body is borrowed with its own length and only read.
-    unsafe { quay_read_message(role, body.as_ptr(), body.len()) }
+    unsafe { quay_read_message(role, family, body.as_ptr(), body.len()) }
 }
 
 pub fn read_weight(weight: QuayWeight) -> QuayReading {
-    // SAFETY: four bytes by value; no memory is lent.
+    // SAFETY: five bytes by value; no memory is lent.
     unsafe { quay_read_weight(weight) }
 }
 
 pub fn value(weight: QuayWeight) -> QuayValue {
-    // SAFETY: four bytes by value; no memory is lent.
+    // SAFETY: five bytes by value; no memory is lent.
     unsafe { quay_value(weight) }
 }
 
 pub fn difference(gross: QuayWeight, net: QuayWeight) -> QuayValue {
-    // SAFETY: twice four bytes by value; no memory is lent.
+    // SAFETY: twice five bytes by value; no memory is lent.
     unsafe { quay_difference(gross, net) }
 }
 
 pub fn kilograms(weight: QuayWeight) -> QuayKilograms {
-    // SAFETY: four bytes by value; no memory is lent.
+    // SAFETY: five bytes by value; no memory is lent.
     unsafe { quay_kilograms(weight) }
 }
 
@@ -225,15 +228,15 @@ pub fn step(log: &[u8], place: usize) -> QuayStepped {
     unsafe { quay_step(log.as_ptr(), log.len(), place) }
 }
 
-pub fn record_heard(time: u64, role: u8, event: QuayEvent, body: &[u8]) -> QuayRecord {
+pub fn record_heard(time: u64, role: u8, family: u8, event: QuayEvent, body: &[u8]) -> QuayRecord {
     // SAFETY: the body is borrowed with its own length and only read.
-    unsafe { quay_record_heard(time, role, event, body.as_ptr(), body.len()) }
+    unsafe { quay_record_heard(time, role, family, event, body.as_ptr(), body.len()) }
 }
 
-pub fn list_event(number: u64, event: QuayEvent, body: &[u8], room: &mut [u8]) -> QuayListed {
+pub fn list_event(number: u64, family: u8, event: QuayEvent, body: &[u8], room: &mut [u8]) -> QuayListed {
     let (room_at, room_length) = (room.as_mut_ptr(), room.len());
     // SAFETY: both are borrowed with their own lengths, and nobody else holds the room.
-    unsafe { quay_list_event(number, event, body.as_ptr(), body.len(), room_at, room_length) }
+    unsafe { quay_list_event(number, family, event, body.as_ptr(), body.len(), room_at, room_length) }
 }
 
 pub fn list_total(total: u64, weights: u64, refused: u64, room: &mut [u8]) -> QuayWritten {

@@ -20,7 +20,7 @@ pub enum Refusal {
     CodeUnknown = 6,
     /// 7: the data length is wrong for the code.
     LengthWrong = 7,
-    /// 8: a field outside its values.
+    /// 8: a field outside its values, as bit 6 of a weight of family 002.
     FieldOutside = 8,
     /// 9: the lent room is shorter than needed.
     RoomShort = 9,

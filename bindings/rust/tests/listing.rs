@@ -2,7 +2,9 @@
 mod heard;
 
 use heard::{frame, sample};
-use quay::{list_event, list_total, Entry, Event, Listed, Reader, Refusal, Total, WirePlace, LONGEST_LINE};
+use quay::{list_event, list_total, Entry, Event, Family, Listed, Reader, Refusal, Total, WirePlace, LONGEST_LINE};
+
+const FAMILY: Family = Family::Of002;
 
 fn listing_of(capture: &[u8], size: usize) -> Vec<u8> {
     let mut reader = Reader::new();
@@ -12,7 +14,7 @@ fn listing_of(capture: &[u8], size: usize) -> Vec<u8> {
     for block in capture.chunks(size) {
         let mut events = reader.feed(block);
         while let Some(event) = events.next() {
-            let listed = list_event(total.events + 1, event, &mut room).expect("room for any line");
+            let listed = list_event(total.events + 1, FAMILY, event, &mut room).expect("room for any line");
             total.count(listed.entry);
             listing.extend_from_slice(&room[..listed.length]);
         }
@@ -42,7 +44,8 @@ fn the_papers_example_lists_exactly_so() {
         &[0xFF, 0x01, 0xC3, 0xE2, 0xFF, 0xFF],
     ]
     .concat();
-    let wanted = "1 weight gross 1 + 000251 1 0 0\n2 weight net 1 - 000005 1 1 0\n3 refused 4\ntotal 3 weights 2 refused 1\n";
+    let wanted =
+        "1 weight gross 1 + 000251 1 0 0 gross\n2 weight net 1 - 000005 1 1 0 gross\n3 refused 4\ntotal 3 weights 2 refused 1\n";
     assert_eq!(String::from_utf8(listing_of(&capture, 7)).as_deref(), Ok(wanted));
 }
 
@@ -58,11 +61,11 @@ fn a_line_without_room_is_refused_and_leaves_it_alone() {
     let event = Event::Frame { wire: WirePlace(7), body: &body };
     let line = b"18446744073709551615 message 1 EE\n";
     let mut short = vec![0x55; line.len() - 1];
-    assert_eq!(list_event(u64::MAX, event, &mut short), Err(Refusal::RoomShort));
+    assert_eq!(list_event(u64::MAX, FAMILY, event, &mut short), Err(Refusal::RoomShort));
     assert_eq!(short, vec![0x55; line.len() - 1]);
 
     let mut room = vec![0x55; line.len() + 1];
-    let listed = list_event(u64::MAX, event, &mut room);
+    let listed = list_event(u64::MAX, FAMILY, event, &mut room);
     assert_eq!(listed, Ok(Listed { length: line.len(), entry: Entry::Message }));
     assert_eq!(room, [&line[..], &[0x55]].concat());
 }
@@ -79,7 +82,7 @@ fn the_longest_line_has_room() {
 fn a_message_that_is_refused_is_counted_as_refused() {
     let body = heard::only_body(&frame(1, 0xC3, &[0, 0, 0xA0, 0]));
     let mut room = [0; LONGEST_LINE];
-    let listed = list_event(4, Event::Frame { wire: WirePlace(10), body: &body }, &mut room).expect("room enough");
+    let listed = list_event(4, FAMILY, Event::Frame { wire: WirePlace(10), body: &body }, &mut room).expect("room enough");
     assert_eq!(&room[..listed.length], b"4 refused 8\n");
     let mut total = Total::default();
     total.count(listed.entry);

@@ -3,11 +3,13 @@ mod heard;
 
 use heard::{frame, sample};
 use quay::{
-    record_heard, records, write_record, Address, BodyPlace, Broken, Event, Load, Noted, Reader, Record, Refusal, Role, Weight,
-    WirePlace, RECORD_LENGTH,
+    record_heard, records, write_record, Address, BodyPlace, Broken, Event, Family, Load, Noted, Reader, Record, Refusal, Role,
+    Weight, WirePlace, RECORD_LENGTH,
 };
 
-const MINUS_ZERO: Weight = Weight([0, 0, 0, 0x90]);
+const FAMILY: Family = Family::Of002;
+
+const MINUS_ZERO: Weight = Weight::new(FAMILY, [0, 0, 0, 0x90]);
 
 fn weighed(time: u64, load: Load, address: Address, weight: Weight) -> Record {
     Record { time, noted: Noted::Weighed { load, address, weight } }
@@ -15,7 +17,7 @@ fn weighed(time: u64, load: Load, address: Address, weight: Weight) -> Record {
 
 fn three() -> [Record; 3] {
     [
-        weighed(10, Load::Gross, Address::Short(2), Weight([0x60, 0x09, 0x04, 0x18])),
+        weighed(10, Load::Gross, Address::Short(2), Weight::new(FAMILY, [0x60, 0x09, 0x04, 0x18])),
         Record { time: 11, noted: Noted::Refused(Refusal::CheckWrong) },
         weighed(u64::MAX, Load::Net, Address::Serial(70_501), MINUS_ZERO),
     ]
@@ -61,8 +63,9 @@ fn a_log_cut_anywhere_is_left_over_or_whole() {
 
 #[test]
 fn a_broken_record_ends_the_log_at_its_place() {
-    // A kind that there is not, an address beside its serial, a half that is no digit, bytes that have to be zero.
-    for (place, byte) in [(8, 4), (8, 0), (10, 1), (14, 0x6A), (17, 1), (19, 1)] {
+    // A kind that there is not, an address beside its serial, bit 6 in family 002, a half that is no digit, a family that there is not,
+    // bytes that have to be zero.
+    for (place, byte) in [(8, 4), (8, 0), (10, 1), (13, 0x58), (14, 0x6A), (17, 4), (17, 255), (18, 1), (19, 1)] {
         let items = three();
         let mut log = log_of(&[items[1], items[0], items[2]]);
         log[RECORD_LENGTH + place] = byte;
@@ -92,7 +95,8 @@ fn what_is_no_record_is_not_written() {
         weighed(1, Load::Gross, Address::Short(0), MINUS_ZERO),
         weighed(1, Load::Gross, Address::Short(0xFE), MINUS_ZERO),
         weighed(1, Load::Net, Address::Serial(0x100_0000), MINUS_ZERO),
-        weighed(1, Load::Net, Address::Short(1), Weight([0xFF; 4])),
+        weighed(1, Load::Net, Address::Short(1), Weight::new(FAMILY, [0xFF; 4])),
+        weighed(1, Load::Net, Address::Short(1), Weight::new(FAMILY, [0, 0, 0, 0x40])),
         refused(Noted::Refused(Refusal::RoomShort)),
         refused(Noted::Refused(Refusal::RecordBroken)),
     ];
@@ -111,10 +115,10 @@ fn what_was_heard_makes_its_record() {
     let heard = |role, wire: &[u8]| {
         let mut reader = Reader::new();
         let mut events = reader.feed(wire);
-        record_heard(5, role, events.next().expect("an event"))
+        record_heard(5, role, FAMILY, events.next().expect("an event"))
     };
-    let weight = Weight([0x51, 0x02, 0x00, 0x01]);
-    let gross = frame(1, 0xC3, &weight.0);
+    let weight = Weight::new(FAMILY, [0x51, 0x02, 0x00, 0x01]);
+    let gross = frame(1, 0xC3, &weight.bytes);
     assert_eq!(heard(Role::Reply, &gross), Ok(Some(weighed(5, Load::Gross, Address::Short(1), weight))));
     // The same bytes as a request are one whose length is wrong.
     let refused = |why| Ok(Some(Record { time: 5, noted: Noted::Refused(why) }));
@@ -129,7 +133,7 @@ fn what_was_heard_makes_its_record() {
 fn a_refusal_that_no_line_can_meet_is_refused() {
     for why in [Refusal::RoomShort, Refusal::LogLeftOver, Refusal::RecordBroken] {
         let event = Event::Refused { why, wire: WirePlace(1), kept: BodyPlace(0) };
-        assert_eq!(record_heard(5, Role::Reply, event), Err(Refusal::FieldOutside), "{why}");
+        assert_eq!(record_heard(5, Role::Reply, FAMILY, event), Err(Refusal::FieldOutside), "{why}");
     }
 }
 
@@ -141,7 +145,7 @@ fn the_sample_as_a_log() {
     let capture = sample("morning.capture");
     let mut events = reader.feed(&capture);
     while let Some(event) = events.next() {
-        items.extend(record_heard(9, Role::Reply, event).expect("what was heard"));
+        items.extend(record_heard(9, Role::Reply, FAMILY, event).expect("what was heard"));
     }
     let read: Vec<Record> = records(&log_of(&items)).collect::<Result<_, _>>().expect("a whole log");
     assert_eq!(read, items);

@@ -2,7 +2,9 @@
 mod heard;
 
 use heard::{frame, hear_fresh, only_body, Heard};
-use quay::{read_message, read_record, step, write_frame, write_message, Address, Load, Refusal, Role, Says, Weight};
+use quay::{read_message, read_record, step, write_frame, write_message, Address, Family, Load, Refusal, Role, Says, Weight};
+
+const FAMILY: Family = Family::Of002;
 
 fn reply(code: u8, data: &[u8]) -> Vec<u8> {
     only_body(&frame(2, code, data))
@@ -24,9 +26,9 @@ fn each_refusal_has_the_papers_number() {
         met_on_the_line(&[0xFF, 0x01, 0xFF, 0x02]),
         met_on_the_line(&[0xFF, 0x01, 0xC3, 0xE2, 0xFF, 0xFF]),
         write_frame(Address::Short(0xFE), 0xC3, &[], &mut room).err(),
-        read_message(Role::Request, &reply(0xEE, &[1])).err(),
-        read_message(Role::Reply, &reply(0xC3, &[])).err(),
-        read_message(Role::Reply, &reply(0xC3, &[0x0A, 0, 0, 0])).err(),
+        read_message(Role::Request, FAMILY, &reply(0xEE, &[1])).err(),
+        read_message(Role::Reply, FAMILY, &reply(0xC3, &[])).err(),
+        read_message(Role::Reply, FAMILY, &reply(0xC3, &[0x0A, 0, 0, 0])).err(),
         write_frame(Address::Short(1), 0xC3, &[], &mut room[..5]).err(),
         step(&[0; 5], 0).err(),
         read_record(&[0; 20]).err(),
@@ -49,16 +51,16 @@ fn a_refusal_says_its_number_and_goes_back_to_itself() {
 fn what_each_reply_says() {
     let said = |code: u8, data: &[u8], wanted: Says<'_>| {
         let body = reply(code, data);
-        let message = read_message(Role::Reply, &body).expect("a good message");
+        let message = read_message(Role::Reply, FAMILY, &body).expect("a good message");
         assert_eq!((message.address, message.code, message.data), (Address::Short(2), code, data));
         assert_eq!(message.says, wanted);
     };
     said(0xC0, &[], Says::Nothing);
     said(0xA1, &[0x65, 0x13, 0x01], Says::Serial(70_501));
     said(0xBF, &[0x41], Says::Status(0x41));
-    let weight = Weight([0x05, 0, 0, 0x91]);
-    said(0xC2, &weight.0, Says::Weight { load: Load::Net, weight });
-    said(0xC3, &weight.0, Says::Weight { load: Load::Gross, weight });
+    let weight = Weight::new(FAMILY, [0x05, 0, 0, 0x91]);
+    said(0xC2, &weight.bytes, Says::Weight { load: Load::Net, weight });
+    said(0xC3, &weight.bytes, Says::Weight { load: Load::Gross, weight });
     said(0xC4, &[0x0F, 0, 0, 0x80], Says::Inputs { bits: 0x8000_000F, on: 5 });
     said(0xC5, &[1, 2, 3, 0xFF], Says::Outputs(0xFF03_0201));
     said(0xC6, &[0x1F, 2, b'O', b'K'], Says::Text { number: 0x1F, text: b"OK" });
@@ -71,10 +73,10 @@ fn what_each_reply_says() {
 #[test]
 fn what_requests_say() {
     let asked = reply(0xC6, &[0x21]);
-    let message = read_message(Role::Request, &asked).expect("a good request");
+    let message = read_message(Role::Request, FAMILY, &asked).expect("a good request");
     assert_eq!(message.says, Says::Number(0x21));
     // In the other role it is a text without its count.
-    assert_eq!(read_message(Role::Reply, &asked), Err(Refusal::LengthWrong));
+    assert_eq!(read_message(Role::Reply, FAMILY, &asked), Err(Refusal::LengthWrong));
 }
 
 #[test]
@@ -83,9 +85,9 @@ fn a_message_written_is_read_back_with_its_address() {
     for address in short.into_iter().chain([Address::Serial(0), Address::Serial(0xFF_FFFF)]) {
         let mut room = [0; 64];
         let data = [0x51, 0x02, 0x00, 0x01];
-        let length = write_message(Role::Reply, address, 0xC3, &data, &mut room).expect("room enough");
+        let length = write_message(Role::Reply, FAMILY, address, 0xC3, &data, &mut room).expect("room enough");
         let body = only_body(&room[..length]);
-        let message = read_message(Role::Reply, &body).expect("what was written");
+        let message = read_message(Role::Reply, FAMILY, &body).expect("what was written");
         assert_eq!((message.address, message.data), (address, &data[..]));
     }
 }
@@ -96,7 +98,7 @@ fn an_address_that_nobody_has_is_refused() {
     let mut room = [0x55; 64];
     for address in [Address::Short(0), Address::Short(0xFE), Address::Short(0xFF), Address::Serial(0x100_0000)] {
         assert_eq!(write_frame(address, 0xC3, &[], &mut room), Err(Refusal::AddressIllegal), "{address:?}");
-        assert_eq!(write_message(Role::Request, address, 0xC3, &[], &mut room), Err(Refusal::AddressIllegal));
+        assert_eq!(write_message(Role::Request, FAMILY, address, 0xC3, &[], &mut room), Err(Refusal::AddressIllegal));
     }
     assert_eq!(room, [0x55; 64]);
 }
@@ -106,7 +108,7 @@ fn lent_room_is_left_alone_but_for_what_is_written() {
     let needed = 6;
     for length in 0..10 {
         let mut room = vec![0x55; length];
-        let written = write_message(Role::Request, Address::Short(1), 0xC3, &[], &mut room);
+        let written = write_message(Role::Request, FAMILY, Address::Short(1), 0xC3, &[], &mut room);
         if length < needed {
             assert_eq!(written, Err(Refusal::RoomShort));
             assert_eq!(room, vec![0x55; length]);

@@ -1,3 +1,4 @@
 pub mod Events
+pub mod Families
 pub mod Roles
 pub mod Writing

@@ -7,7 +7,8 @@ use Rattle.body.specs.Addresses.{legal, addressIn, addressLength}
 use Rattle.body.specs.Body.{short, judged, judgedLent, codeIn, dataIn}
 use Rattle.frame.specs.Stuffing.{stuffedByte, stuffed, framed}
 use Rattle.line.specs.Listener.{tick, keep, ended, hearIn, hear, heardThen, events}
-use Rattle.weight.specs.Bytes.{inRange, fourIn, readOf}
+use Rattle.weight.specs.Families.{namedIn, familyNamed}
+use Rattle.weight.specs.Bytes.{inRange, fourIn, readAs, readOf}
 use Rattle.weight.specs.Tenths.{valueOf}
 use Rattle.codes.specs.Table.{lineIn, lineOf, rowOf}
 use Rattle.low_first.specs.LowFirst.{lowFirst}
@@ -20,9 +21,9 @@ use Rattle.demands.specs.Logs.{ExamplesNoted}
 use Rattle.demands.specs.Weighings.{recordsFrom}
 
 pub judged-examples : JudgedExamples
-unfolding flatten shiftIn feedBits feedByte feedAll received legal addressIn addressLength short judged judgedLent codeIn dataIn stuffedByte stuffed framed tick keep ended hearIn hear heardThen events inRange readOf valueOf fourIn lineIn lineOf rowOf lowFirst judgedData judgedMessage judgedCode messageOf readIf readMessage
+unfolding flatten shiftIn feedBits feedByte feedAll received legal addressIn addressLength short judged judgedLent codeIn dataIn stuffedByte stuffed framed tick keep ended hearIn hear heardThen events inRange readOf readAs familyNamed namedIn valueOf fourIn lineIn lineOf rowOf lowFirst judgedData judgedMessage judgedCode messageOf readIf readMessage
 judged-examples = record { read = refl; written = refl; too-long = (refl, refl) }
 
 pub examples-noted : ExamplesNoted
-unfolding flatten recordsFrom recordOf metRecord weighedRecord good goodWeighing goodAddress addressOf shiftIn feedBits feedByte feedAll received legal addressIn addressLength short judged judgedLent codeIn dataIn inRange readOf fourIn lineIn lineOf rowOf lowFirst judgedData judgedMessage judgedCode messageOf readIf readMessage
+unfolding flatten recordsFrom recordOf metRecord weighedRecord good goodWeighing goodAddress addressOf shiftIn feedBits feedByte feedAll received legal addressIn addressLength short judged judgedLent codeIn dataIn inRange readOf readAs familyNamed namedIn fourIn lineIn lineOf rowOf lowFirst judgedData judgedMessage judgedCode messageOf readIf readMessage
 examples-noted = refl

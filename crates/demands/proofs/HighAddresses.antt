@@ -26,6 +26,7 @@ use Rattle.line.specs.Listener.{State, seeking, delimited, inside, held, Heard,
 use Rattle.line.specs.declared.reading.Reader.{Reader}
 use Rattle.line.specs.Readers.{view}
 use Rattle.line.proofs.EveryStep.{either, every-event}
+use Rattle.weight.specs.declared.families.Family.{Family}
 use Rattle.codes.specs.declared.table.Role.{Role}
 use Rattle.codes.specs.declared.table.Role.the-variants.{Reply}
 use Rattle.codes.specs.declared.table.Load.{Load}
@@ -78,7 +79,7 @@ not-illegal body right wrong five = let clash : _≡_ {A = ℕ} 0 1 = cc in omeg
 end-not-five : (body : List ℕ) → legal (addressIn body) ≡ true → (why : Refusal) → judged body ≡ Refused why → NotFive why
 end-not-five body right = end-refuses NotFive body (λ five. omega arith) (λ five. omega arith) (not-illegal body right)
 
-message-not-five : (body : List ℕ) → judged body ≡ Good → (role : Role) (why : Refusal) → readMessage role body ≡ received-as.Refused why → NotFive why
+message-not-five : (body : List ℕ) → judged body ≡ Good → (role : Role) (family : Family) (why : Refusal) → readMessage role family body ≡ received-as.Refused why → NotFive why
 message-not-five body good =
     message-refuses NotFive body (λ five. omega arith) (λ five. omega arith) (not-illegal body (good-address body good)) (λ five. omega arith)
     (λ five. omega arith) (λ five. omega arith) (λ five. omega arith)
@@ -153,18 +154,18 @@ entry-said : (address : Address) (code : ℕ) (weight : WeightOrNot) (why : Refu
 entry-said address code (said-as.Weight said) why e = let clash : _≡_ {A = ℕ} 0 1 = cc in omega arith
 entry-said address code said-as.NoWeight why e = let clash : _≡_ {A = ℕ} 0 1 = cc in omega arith
 
-read-listed : (body : List ℕ) → judged body ≡ Good → (why : Refusal) (received : Received) → readMessage Reply body ≡ received → entryOf received ≡ entry-as.Refused why
+read-listed : (family : Family) (body : List ℕ) → judged body ≡ Good → (why : Refusal) (received : Received) → readMessage Reply family body ≡ received → entryOf received ≡ entry-as.Refused why
     → NotFive why
-read-listed body good why (received-as.Message message) was e = absurd (entry-said (message .address) (message .code) (weightSaid (message .what)) why e)
-read-listed body good why (received-as.Refused other) was e =
+read-listed family body good why (received-as.Message message) was e = absurd (entry-said (message .address) (message .code) (weightSaid (message .what)) why e)
+read-listed family body good why (received-as.Refused other) was e =
     let same : other ≡ why = cc in
-    subst NotFive same (message-not-five body good Reply other was)
+    subst NotFive same (message-not-five body good Reply family other was)
 
-listed : (why : Refusal) (heard : Heard) → Fine heard → entryHeard heard ≡ entry-as.Refused why → NotFive why
+listed : (family : Family) (why : Refusal) (heard : Heard) → Fine heard → entryHeard family heard ≡ entry-as.Refused why → NotFive why
 unfolding entryHeard
-listed why nothing fine e = let clash : _≡_ {A = ℕ} 0 1 = cc in absurd (omega arith)
-listed why (frame wire kept body) good e = read-listed body good why (readMessage Reply body) refl e
-listed why (refused other wire kept) fine e =
+listed family why nothing fine e = let clash : _≡_ {A = ℕ} 0 1 = cc in absurd (omega arith)
+listed family why (frame wire kept body) good e = read-listed family body good why (readMessage Reply family body) refl e
+listed family why (refused other wire kept) fine e =
     let same : other ≡ why = cc in
     subst NotFive same fine
 
@@ -176,17 +177,17 @@ module _ (time : ℕ) (item : Record) (met : item .kind ≡ metKind) (five : ite
   of-refusal : (why : Refusal) → NotFive why → recordOf time (received-as.Refused why) ≡ noted-as.Record item → ⊥
   of-refusal why not-five e = not-five (sym (ap (λ (one : Record). one .status) (refusal-made time why item e)) ∙ five)
 
-  of-body : (body : List ℕ) → judged body ≡ Good → (role : Role) (received : Received) → readMessage role body ≡ received → recordOf time received ≡ noted-as.Record item → ⊥
+  of-body : (body : List ℕ) → judged body ≡ Good → (role : Role) (family : Family) (received : Received) → readMessage role family body ≡ received → recordOf time received ≡ noted-as.Record item → ⊥
   unfolding recordOf
-  of-body body good role (received-as.Message message) was e =
+  of-body body good role family (received-as.Message message) was e =
       let made = said-made time (message .address) (weightSaid (message .what)) item e in
       weighed (made .said .load) (ap (λ (one : Record). one .kind) (made .is))
-  of-body body good role (received-as.Refused why) was e = of-refusal why (message-not-five body good role why was) e
+  of-body body good role family (received-as.Refused why) was e = of-refusal why (message-not-five body good role family why was) e
 
-  noted : (role : Role) (heard : Heard) → Fine heard → notedHeard time role heard ≡ noted-as.Record item → ⊥
-  noted role nothing fine e = let clash : _≡_ {A = ℕ} 0 1 = cc in omega arith
-  noted role (frame wire kept body) good e = of-body body good role (readMessage role body) refl e
-  noted role (refused why wire kept) fine e = of-refusal why fine e
+  noted : (role : Role) (family : Family) (heard : Heard) → Fine heard → notedHeard time role family heard ≡ noted-as.Record item → ⊥
+  noted role family nothing fine e = let clash : _≡_ {A = ℕ} 0 1 = cc in omega arith
+  noted role family (frame wire kept body) good e = of-body body good role family (readMessage role family body) refl e
+  noted role family (refused why wire kept) fine e = of-refusal why fine e
 
 -- ---- the law
 
@@ -210,10 +211,10 @@ module _ (blocks : List (List ℕ)) (small : T (areBytes (flatten blocks))) wher
 
   of-written : WrittenWithoutFive (overBlocks events after fresh blocks)
   of-written = record {
-    noted = λ time role item among met five.
-        in-log Fine (λ _. ⊥) time role item (λ heard number. noted (time number) item met five role heard) _ 1 (fine _ (any-blocks fresh blocks)) among .such;
-    listed = λ why among.
-        in-listing Fine (λ _. NotFive why) (entry-as.Refused why) (listed why) _ (fine _ (any-blocks fresh blocks)) among .such;
+    noted = λ time role family item among met five.
+        in-log Fine (λ _. ⊥) time role family item (λ heard number. noted (time number) item met five role family heard) _ 1 (fine _ (any-blocks fresh blocks)) among .such;
+    listed = λ family why among.
+        in-listing Fine (λ _. NotFive why) family (entry-as.Refused why) (listed family why) _ (fine _ (any-blocks fresh blocks)) among .such;
   }
 
 pub never-five : NeverFive

@@ -2,12 +2,15 @@ pub mod AllHeard
 pub mod ByPlaces
 pub mod BehindAnEvent
 pub mod Bytes
+pub mod ByFamily
 pub mod CaptureWalks
 pub mod Corollaries
 pub mod Counts
 pub mod Cuts
 pub mod Demand3
 pub mod Examples
+pub mod Families
+pub mod FamiliesShown
 pub mod HighAddresses
 pub mod Kept
 pub mod LastByte

@@ -5,6 +5,7 @@ use mathlib.Core.Path.{_≡_, refl, ap}
 use mathlib.Core.Bool.{true}
 use mathlib.Core.List.{List, [], _∷_}
 use Rattle.line.specs.Listener.{Heard, nothing, frame, refused}
+use Rattle.weight.specs.declared.families.Family.{Family}
 use Rattle.codes.specs.declared.table.Role.{Role}
 use Rattle.meaning.specs.Weights.{weightSaid}
 use Rattle.message.specs.declared.reading.Received.{Received}
@@ -33,25 +34,25 @@ unfolding recordOf
 time-kept time (received-as.Message message) item e = ap (λ (one : Record). one .time) (said-made time (message .address) (weightSaid (message .what)) item e .is)
 time-kept time (received-as.Refused why) item e = ap (λ (one : Record). one .time) (refusal-made time why item e)
 
-pub noted-good : (time : ℕ) (role : Role) (heard : Heard) (item : Record) → notedHeard time role heard ≡ noted-as.Record item → (good item ≡ true) × (item .time ≡ time)
-noted-good time role nothing item e = (cc, cc)
-noted-good time role (frame wire kept body) item e = (made-good time (readMessage role body) item e, time-kept time (readMessage role body) item e)
-noted-good time role (refused why wire kept) item e = (made-good time (received-as.Refused why) item e, time-kept time (received-as.Refused why) item e)
+pub noted-good : (time : ℕ) (role : Role) (family : Family) (heard : Heard) (item : Record) → notedHeard time role family heard ≡ noted-as.Record item → (good item ≡ true) × (item .time ≡ time)
+noted-good time role family nothing item e = (cc, cc)
+noted-good time role family (frame wire kept body) item e = (made-good time (readMessage role family body) item e, time-kept time (readMessage role family body) item e)
+noted-good time role family (refused why wire kept) item e = (made-good time (received-as.Refused why) item e, time-kept time (received-as.Refused why) item e)
 
-module _ (time : ℕ → ℕ) (small : (number : ℕ) → time number < 2 ^ 64) (role : Role) where
-  note-writable : (heard : Heard) (number : ℕ) (later : List Record) → Writable later → (made : Noted) → notedHeard (time number) role heard ≡ made
+module _ (time : ℕ → ℕ) (small : (number : ℕ) → time number < 2 ^ 64) (role : Role) (family : Family) where
+  note-writable : (heard : Heard) (number : ℕ) (later : List Record) → Writable later → (made : Noted) → notedHeard (time number) role family heard ≡ made
       → Writable (noteThen made later)
   note-writable heard number later rest noted-as.Nothing e = rest
   note-writable heard number later rest (noted-as.Record item) e =
-      let (right, at-time) = noted-good (time number) role heard item e in
+      let (right, at-time) = noted-good (time number) role family heard item e in
       more right (rw at-time (small number)) rest
   note-writable heard number later rest (noted-as.Refused why) e = rest
 
-  writable : (heard : List Heard) (number : ℕ) → Writable (recordsFrom time role number heard)
+  writable : (heard : List Heard) (number : ℕ) → Writable (recordsFrom time role family number heard)
   unfolding recordsFrom
   writable [] number = none
   writable (heard ∷ later) number =
-      note-writable heard number (recordsFrom time role (number + 1) later) (writable later (number + 1)) (notedHeard (time number) role heard) refl
+      note-writable heard number (recordsFrom time role family (number + 1) later) (writable later (number + 1)) (notedHeard (time number) role family heard) refl
 
 pub line-log-whole : LineLogWhole
-line-log-whole time small role heard = log-back (writable time small role heard 1)
+line-log-whole time small role family heard = log-back (writable time small role family heard 1)

@@ -18,6 +18,7 @@ use Rattle.body.specs.Addresses.{addressIn}
 use Rattle.body.specs.Body.{bodyOf, codeIn, dataIn}
 use Rattle.frame.specs.Stuffing.{framed, needed}
 use Rattle.frame.specs.Writing.{judgedLength}
+use Rattle.weight.specs.declared.families.Family.{Family}
 use Rattle.codes.specs.declared.table.Role.{Role}
 use Rattle.message.specs.declared.reading.Message.{Message}
 use Rattle.codes.specs.Table.{rowOf, inTable}
@@ -36,24 +37,24 @@ use Rattle.demands.proofs.Reading.{verdict-of}
 
 pub written-reads-back : MessageReadsBack
 unfolding writtenMessage
-written-reads-back role address code data′ room good =
+written-reads-back role family address code data′ room good =
     let body = bodyOf address code data′ in
-    let bytes : writtenBytes (writtenMessage role address code data′ room) ≡ framed body = rw good (take-at (framed body) _ (length (framed body)) refl) in
+    let bytes : writtenBytes (writtenMessage role family address code data′ room) ≡ framed body = rw good (take-at (framed body) _ (length (framed body)) refl) in
     record {
-      heard = rw bytes (reads-back body (written-lent role address code data′ room good));
-      message = read-back role address code data′ room good;
-      stand = data-stand role address code data′ room good;
+      heard = rw bytes (reads-back body (written-lent role family address code data′ room good));
+      message = read-back role family address code data′ room good;
+      stand = data-stand role family address code data′ room good;
     }
 
 -- ---- read, then written
 
 pub accepted-writes-back : AcceptedWritesBack
 unfolding writtenMessage
-accepted-writes-back role body message all received =
-    let same = body-back role body message received all in
+accepted-writes-back role family body message all received =
+    let same = body-back role family body message received all in
     record {
       same = same;
-      written = λ room enough. rw (again role body message received all room enough, same);
+      written = λ room enough. rw (again role family body message received all room enough, same);
     }
 
 -- ---- the three tests
@@ -88,12 +89,12 @@ first-to-fail true true true after other =
     }
 
 -- the message's verdict with a judge behind it is such a chain
-judged-then : (role : Role) (code : ℕ) (data′ : List ℕ) (after : Verdict)
-    → judgedThen (judgedMessage role code data′) after
-    ≡ chain (inTable (rowOf role code)) (lengthRight (lengthOf (rowOf role code)) data′) (fieldsRight (rowOf role code) data′) after
+judged-then : (role : Role) (family : Family) (code : ℕ) (data′ : List ℕ) (after : Verdict)
+    → judgedThen (judgedMessage role family code data′) after
+    ≡ chain (inTable (rowOf role code)) (lengthRight (lengthOf (rowOf role code)) data′) (fieldsRight family (rowOf role code) data′) after
 unfolding judgedMessage judgedCode judgedData chain
-judged-then role code data′ after =
-    by-tests (inTable (rowOf role code)) (lengthRight (lengthOf (rowOf role code)) data′) (fieldsRight (rowOf role code) data′)
+judged-then role family code data′ after =
+    by-tests (inTable (rowOf role code)) (lengthRight (lengthOf (rowOf role code)) data′) (fieldsRight family (rowOf role code) data′)
   where
     by-tests : (known sized right : Bool)
         → judgedThen (judgedThen (refuseIf (not known) CodeUnknown Good) (refuseIf (not sized) LengthWrong (refuseIf (not right) FieldOutside Good))) after
@@ -103,9 +104,9 @@ judged-then role code data′ after =
     by-tests true true false = refl
     by-tests true true true = refl
 
-by-the-table : (role : Role) (code : ℕ) (data′ : List ℕ) (after : Verdict) → Other after
-    → AsTheTableSays role code data′ after (judgedThen (judgedMessage role code data′) after)
-by-the-table role code data′ after other = rw (judged-then role code data′ after) (first-to-fail _ _ _ after other)
+by-the-table : (role : Role) (family : Family) (code : ℕ) (data′ : List ℕ) (after : Verdict) → Other after
+    → AsTheTableSays role family code data′ after (judgedThen (judgedMessage role family code data′) after)
+by-the-table role family code data′ after other = rw (judged-then role family code data′ after) (first-to-fail _ _ _ after other)
 
 -- ---- reading, behind 2, 1, 4, 5
 
@@ -114,23 +115,23 @@ then-nothing Good message = refl
 then-nothing (Refused why) message = refl
 
 pub reading-refuses : ReadingRefuses
-reading-refuses role body = record {
-  ahead = λ why refused. rw (read-so role body, in-order role body, refused);
+reading-refuses role family body = record {
+  ahead = λ why refused. rw (read-so role family body, in-order role family body, refused);
   then = λ good.
-      rw (read-so role body, in-order role body, good, then-nothing (judgedMessage role (codeIn body) (dataIn body)) (messageOf role (addressIn body) (codeIn body) (dataIn body)))
-      (by-the-table role (codeIn body) (dataIn body) Good (after-length-and-room false false));
+      rw (read-so role family body, in-order role family body, good, then-nothing (judgedMessage role family (codeIn body) (dataIn body)) (messageOf role family (addressIn body) (codeIn body) (dataIn body)))
+      (by-the-table role family (codeIn body) (dataIn body) Good (after-length-and-room false false));
 }
 
 -- ---- writing, behind 5
 
 pub writing-refuses : WritingRefuses
 unfolding writtenMessage judgedMessageWrite
-writing-refuses role address code data′ room =
+writing-refuses role family address code data′ room =
     let body = bodyOf address code data′ in
     let after = judgedLength body (judgedRoom (needed body) room) in
     record {
       ahead = λ illegal. rw illegal;
       then = λ is-legal.
-          rw (is-legal, verdict-of (judgedThen (judgedMessage role code data′) after) (framed body) room)
-          (by-the-table role code data′ after (after-length-and-room (ltb 255 (length body)) (ltb (length room) (needed body))));
+          rw (is-legal, verdict-of (judgedThen (judgedMessage role family code data′) after) (framed body) room)
+          (by-the-table role family code data′ after (after-length-and-room (ltb 255 (length body)) (ltb (length room) (needed body))));
     }

@@ -17,12 +17,12 @@ abbrev pub Met : Refusal → Type 0
 Met why = lineStatus (numberOf why) ≡ true
 
 pub message-refusals-noted : MessageRefusalsNoted
-message-refusals-noted time role wire kept body why e =
-    rw e (met-noted time why (message-refuses Met body refl refl (λ _. refl) refl refl refl refl role why e))
+message-refusals-noted time role family wire kept body why e =
+    rw e (met-noted time why (message-refuses Met body refl refl (λ _. refl) refl refl refl refl role family why e))
 
 pub message-refusals-listed : MessageRefusalsListed
 unfolding entryHeard
-message-refusals-listed wire kept body why e = rw e
+message-refusals-listed family wire kept body why e = rw e
 
 abbrev pub Told : Heard → Type 0
 Told nothing = Unit {0}
@@ -33,8 +33,8 @@ pub line-told : (listener : Listener) (byte : ℕ) → Told (hear listener byte 
 line-told listener byte = every-told Told listener byte tt refl refl (λ good. tt) (end-refuses Met _ refl refl (λ _. refl))
 
 pub line-refusals-noted : LineRefusalsNoted
-line-refusals-noted time role listener byte why wire kept e = rw e (met-noted time why (subst Told e (line-told listener byte)))
+line-refusals-noted time role family listener byte why wire kept e = rw e (met-noted time why (subst Told e (line-told listener byte)))
 
 pub line-refusals-listed : LineRefusalsListed
 unfolding entryHeard
-line-refusals-listed listener byte why wire kept e = rw e
+line-refusals-listed family listener byte why wire kept e = rw e

@@ -11,7 +11,8 @@ use Rattle.frame.specs.Stuffing.{stuffedByte, stuffed, framed, countFF, needed}
 use Rattle.frame.specs.Writing.{judgedFields, judgedWrite, writtenFrame}
 use Rattle.line.specs.Listener.{tick, keep, ended, hearIn, hear, heardThen, events}
 use Rattle.line.specs.Readers.{listening, taken}
-use Rattle.weight.specs.Bytes.{inRange, fourIn, readOf}
+use Rattle.weight.specs.Families.{namedIn, familyNamed}
+use Rattle.weight.specs.Bytes.{inRange, fourIn, readAs, readOf}
 use Rattle.weight.specs.Tenths.{valueOf}
 use Rattle.codes.specs.Table.{lineIn, lineOf, rowOf}
 use Rattle.meaning.specs.Judging.{judgedCode, judgedData, judgedMessage}
@@ -27,14 +28,14 @@ use Rattle.demands.specs.Weighings.{recordsFrom}
 
 pub five-earned : FiveEarned
 unfolding shiftIn feedBits feedByte feedAll received legal addressIn short judged judgedLent stuffedByte stuffed framed tick keep ended hearIn hear heardThen events listening taken heardBy addressBytes lowBytes unchecked checkOf bodyOf countFF needed judgedFields judgedWrite writtenFrame judgedMessage readIf readMessage
-five-earned = record { number = refl; handed-in = refl; handed-in-ff = refl; lent = refl; message = refl; writing = refl; accepted = refl; no-event = refl }
+five-earned = record { number = refl; handed-in = refl; handed-in-ff = refl; lent = refl; message = λ _. refl; writing = refl; accepted = refl; no-event = refl }
 
 range : RangeOfAddresses
 unfolding legal
 range = record { inside = refl; outside = refl; serials = refl }
 
 pub older-bridges : OlderBridges
-unfolding flatten shiftIn feedBits feedByte feedAll received legal addressIn addressLength short judged judgedLent codeIn dataIn stuffedByte stuffed framed onWire wireOf tick keep ended hearIn hear heardThen events listening taken heardBy inRange readOf valueOf fourIn lineIn lineOf rowOf lowFirst judgedData judgedMessage judgedCode messageOf readIf readMessage addressBytes unchecked checkOf bodyOf countFF needed judgedFields judgedWrite writtenFrame recordsFrom recordOf metRecord weighedRecord good goodWeighing goodAddress addressOf entryHeard
+unfolding flatten shiftIn feedBits feedByte feedAll received legal addressIn addressLength short judged judgedLent codeIn dataIn stuffedByte stuffed framed onWire wireOf tick keep ended hearIn hear heardThen events listening taken heardBy inRange readOf readAs familyNamed namedIn valueOf fourIn lineIn lineOf rowOf lowFirst judgedData judgedMessage judgedCode messageOf readIf readMessage addressBytes unchecked checkOf bodyOf countFF needed judgedFields judgedWrite writtenFrame recordsFrom recordOf metRecord weighedRecord good goodWeighing goodAddress addressOf entryHeard
 older-bridges = record {
   range = range;
   frames = (

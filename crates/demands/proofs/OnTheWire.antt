@@ -208,21 +208,23 @@ reply-in bytes heard load address four among reply =
 
 pub log-on-the-wire : LogOnTheWire
 unfolding listening
-log-on-the-wire bytes small time role item among weighing =
-    let found = log-as-heard freshReader tt bytes small time role item among weighing in
+log-on-the-wire bytes small time role family item among weighing =
+    let found = log-as-heard freshReader tt bytes small time role family item among weighing in
     record {
       load = found .such .load;
       kind = found .such .kind;
       as-reply = found .such .as-reply;
+      of-line = found .such .of-line;
       reply = reply-in bytes (found .event) (found .such .load) (addressOf item) _ (found .among) (found .such .reply);
     }
 
 pub listing-on-the-wire : ListingOnTheWire
 unfolding listening
-listing-on-the-wire bytes small load address reading among =
-    let found = listing-as-heard freshReader tt bytes small load address reading among in
+listing-on-the-wire bytes small family load address reading among =
+    let found = listing-as-heard freshReader tt bytes small family load address reading among in
     record {
       four = found .such .four;
       packed = found .such .packed;
+      of-line = found .such .of-line;
       reply = reply-in bytes (found .event) load address _ (found .among) (found .such .reply);
     }

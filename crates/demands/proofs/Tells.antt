@@ -17,9 +17,11 @@ use Rattle.body.specs.Addresses.{legal, addressBytes, addressIn}
 use Rattle.body.specs.Body.{unchecked, bodyOf, short, judged, judgedLent}
 use Rattle.line.specs.Listener.{Heard, nothing, frame, refused, seeking, delimited, tick, keep, hearIn, hear}
 use Rattle.line.specs.Readers.{listening, taken, fedFrom, fedLent}
+use Rattle.weight.specs.declared.families.Family.the-variants.{Of000, Of001, Of002}
 use Rattle.weight.specs.declared.FourBytes.{FourBytes}
 use Rattle.weight.specs.declared.Reading.{Reading}
-use Rattle.weight.specs.Bytes.{inRange, readOf, bytesOf, packedOf}
+use Rattle.weight.specs.Families.{namedIn, familyNamed}
+use Rattle.weight.specs.Bytes.{inRange, readAs, readOf, bytesOf, packedOf}
 use Rattle.codes.specs.declared.table.Role.the-variants.{Request, Reply}
 use Rattle.codes.specs.declared.table.Load.{Load}
 use Rattle.codes.specs.declared.table.Load.the-variants.{Net, Gross}
@@ -114,7 +116,7 @@ none-such : {heard : List Heard} → Among heard (λ (one : Heard). ⊥) → ⊥
 none-such found = found .such
 
 -- in the log: the kind, the role, the four bytes in their order
-weighing-of : (load : Load) (four : FourBytes) → WeighingHeard Reply (weighing 3 (Short 1) load four) e3 → (load ≡ Gross) × ((four .w0 ≡ 0x51) × (four .con ≡ 0x01))
+weighing-of : (load : Load) (four : FourBytes) → WeighingHeard Reply Of002 (weighing 3 (Short 1) load four) e3 → (load ≡ Gross) × ((four .w0 ≡ 0x51) × (four .con ≡ 0x01))
 unfolding addressOf
 weighing-of load four h = by-load load (h .load) (h .kind) (h .reply)
   where
@@ -124,40 +126,48 @@ weighing-of load four h = by-load load (h .load) (h .kind) (h .reply)
     by-load Net Gross kind reply = absurd (omega arith)
     by-load load Net kind reply = absurd (reply-load reply)
 
-weighing-role : (load : Load) (four : FourBytes) → WeighingHeard Request (weighing 3 (Short 1) load four) e3 → ⊥
+weighing-role : (load : Load) (four : FourBytes) → WeighingHeard Request Of002 (weighing 3 (Short 1) load four) e3 → ⊥
 weighing-role load four h = let was = h .as-reply in let clash : _≡_ {A = ℕ} 0 1 = cc in omega arith
+
+-- and the family of the line
+weighing-family : (load : Load) (four : FourBytes) → WeighingHeard Reply Of000 (weighing 3 (Short 1) load four) e3 → four .family ≡ 1
+weighing-family load four h = h .of-line
 
 -- in the listing: a reading of 25.0 kg is not E3's
 abbrev other : Reading
-other = record { minus = false; number = 250; point = 1; bit6 = false; bit5 = false; settled = false; overload = false }
+other = record { minus = false; number = 250; point = 1; bit6 = false; bit5 = false; settled = false; overload = false; family = Of002 }
 
-listed-other : ListedHeard Gross (Short 1) other e3 → ⊥
+listed-other : ListedHeard Of002 Gross (Short 1) other e3 → ⊥
 unfolding packedOf inRange
 listed-other h =
     let packed = h .packed in
     let same : bytesOf other ≡ h .four = cc in
     omega (arith, ap (λ (four : FourBytes). four .w0) same, reply-first (h .reply))
 
+-- nor is one of 002 a reading of a line of 000
+listed-family : ListedHeard Of000 Gross (Short 1) other e3 → ⊥
+listed-family h = let was = h .of-line in let clash : _≡_ {A = ℕ} 0 1 = cc in omega arith
+
 -- ---- premises reach to the end of their range
 
--- the highest digits and every bit of the status
+-- the highest digits and every bit of the status, of a family that reserves none
 abbrev highest : FourBytes
-highest = record { w0 = 0x99; w1 = 0x99; w2 = 0x99; con = 0xFF }
+highest = record { w0 = 0x99; w1 = 0x99; w2 = 0x99; con = 0xFF; family = 2 }
 
-reply-highest : WeightReply (Serial 16_777_215) highest
+reply-highest : WeightReply Of001 (Serial 16_777_215) highest
 unfolding legal
-reply-highest = record { from = refl; digits = refl; status = omega arith }
+reply-highest = record { from = refl; digits = refl; status = omega arith; bit6 = λ e. let clash : _≡_ {A = ℕ} 0 1 = cc in absurd (omega arith); line = refl }
 
 weighed-highest : NotesItsWeight (weighing 0 (Serial 16_777_215) Net highest)
-unfolding good goodWeighing readOf goodAddress addressOf legal
+unfolding good goodWeighing readOf readAs familyNamed namedIn goodAddress addressOf legal
 weighed-highest = always-its-weight .weighed (weighing 0 (Serial 16_777_215) Net highest) refl refl (omega arith)
 
 -- the last time of 64 bits
 abbrev last : ℕ → ℕ
 last number = 18_446_744_073_709_551_615
 
-last-time : (heard : List Heard) → wholeLog (bytesOfLog (recordsHeard last Reply heard)) ≡ record { records = recordsHeard last Reply heard; ending = Good }
-last-time heard = line-log-whole last (λ (number : ℕ). omega arith) Reply heard
+last-time : (heard : List Heard) → wholeLog (bytesOfLog (recordsHeard last Reply Of002 heard)) ≡ record { records = recordsHeard last Reply Of002 heard; ending = Good }
+last-time heard = line-log-whole last (λ (number : ℕ). omega arith) Reply Of002 heard
 
 -- ---- what may be written
 
@@ -165,9 +175,13 @@ sound-address : Sound (Weight Gross (Short 0) other) → ⊥
 unfolding legal
 sound-address h = let was = h .0 in let clash : _≡_ {A = ℕ} 0 1 = cc in omega arith
 
-sound-reading : Sound (Weight Gross (Short 1) (record { minus = false; number = 1_000_000; point = 1; bit6 = false; bit5 = false; settled = false; overload = false })) → ⊥
+sound-reading : Sound (Weight Gross (Short 1) (record { minus = false; number = 1_000_000; point = 1; bit6 = false; bit5 = false; settled = false; overload = false; family = Of002 })) → ⊥
 unfolding inRange
 sound-reading h = let was = h .1 in let clash : _≡_ {A = ℕ} 0 1 = cc in omega arith
+
+sound-reserved : Sound (Weight Gross (Short 1) (record { minus = false; number = 250; point = 1; bit6 = true; bit5 = false; settled = false; overload = false; family = Of002 })) → ⊥
+unfolding inRange
+sound-reserved h = let was = h .1 in let clash : _≡_ {A = ℕ} 0 1 = cc in omega arith
 
 sound-message : Sound (Message (Short 0) 0xA1) → ⊥
 unfolding legal
@@ -183,15 +197,15 @@ five-told h = h AddressIllegal 5 3 (List·Memᴰ·head refl) refl
 
 five-noted : WrittenWithoutFive (refused AddressIllegal 5 3 ∷ []) → ⊥
 unfolding recordsFrom recordOf metRecord
-five-noted h = h .noted (λ (number : ℕ). number) Reply (metOnLine 1 5) (List·Memᴰ·head refl) refl refl
+five-noted h = h .noted (λ (number : ℕ). number) Reply Of002 (metOnLine 1 5) (List·Memᴰ·head refl) refl refl
 
 five-listed : WrittenWithoutFive (refused AddressIllegal 5 3 ∷ []) → ⊥
 unfolding entryHeard
-five-listed h = h .listed AddressIllegal (List·Memᴰ·head refl) refl
+five-listed h = h .listed Of002 AddressIllegal (List·Memᴰ·head refl) refl
 
 five-read : WrittenWithoutFive (frame 6 3 fromFE ∷ []) → ⊥
 unfolding entryHeard shiftIn feedBits feedByte feedAll received addressIn short judged judgedLent judgedMessage readIf readMessage legal
-five-read h = h .listed AddressIllegal (List·Memᴰ·head refl) refl
+five-read h = h .listed Of002 AddressIllegal (List·Memᴰ·head refl) refl
 
 -- ---- 6, 7, 8
 

@@ -2,7 +2,7 @@
 -- is one does, with its own four bytes. Why: a record's kind is asked ahead of its bytes, and what crosses without a weight has no digits.
 use Prim.Native.Nat.{ℕ, _*_, _-_, _^_, _<_}
 use mathlib.Core.Path.{_≡_, _∙_, refl, sym}
-use mathlib.Core.Bool.{Bool, true, false, cond, and-eq-true-iff}
+use mathlib.Core.Bool.{Bool, true, false, and-eq-true-iff}
 use mathlib.Core.List.{List}
 use native.Mathlib.Omega.{arith}
 use borrow.Author.Tests.{eqb-true}
@@ -11,13 +11,12 @@ use lib.Pow.{areBytes}
 use lib.IntN.{ℤ}
 use Rattle.refusal.specs.declared.Refusal.the-variants.{FieldOutside, RecordBroken}
 use Rattle.refusal.specs.Numbers.{numberOf}
+use Rattle.weight.specs.declared.families.Family.{Family}
 use Rattle.weight.specs.declared.FourBytes.{FourBytes}
 use Rattle.weight.specs.declared.Reading.{Reading}
 use Rattle.weight.specs.declared.Read.{Read}
 use Rattle.weight.specs.declared.Read.the-variants as read-as
 use Rattle.weight.specs.declared.Value.the-variants as value-as
-use Rattle.weight.specs.Digits.{allDecimal, digitsOf}
-use Rattle.weight.specs.Status.{readingOf}
 use Rattle.weight.specs.Bytes.{inRange, readOf, readable}
 use Rattle.weight.specs.Tenths.{signed, valueOf, differenceOf}
 use Rattle.weight.proofs.RoundTrip.{bytes-back}
@@ -46,7 +45,7 @@ use Rattle.weighing_log.specs.declared.hearing.Noted.{Noted}
 use Rattle.weighing_log.specs.declared.hearing.Noted.the-variants as noted-as
 use Rattle.records.specs.Stepping.{stepped}
 use Rattle.weighing_log.specs.Hearing.{notedHeard}
-use Rattle.weighing_log.proofs.Weighings.{carries, spelled, status-small}
+use Rattle.weighing_log.proofs.Weighings.{carries, spelled, status-small, said-family}
 use Rattle.line.specs.Readers.{heardAs}
 use Rattle.line.specs.declared.places.Event.{Event}
 use Rattle.crossing.specs.declared.events.Given.{Given}
@@ -55,12 +54,15 @@ use Rattle.crossing.specs.declared.roles.Asked.{Asked}
 use Rattle.crossing.specs.declared.roles.Asked.the-variants as asked-as
 use Rattle.crossing.specs.declared.events.QuayEvent.{QuayEvent}
 use Rattle.crossing.specs.Events.{eventFrom}
+use Rattle.crossing.specs.declared.families.Kin.{Kin}
+use Rattle.crossing.specs.declared.families.Kin.the-variants as kin-as
+use Rattle.crossing.specs.Families.{familyFrom}
 use Rattle.crossing.specs.Roles.{roleFrom}
 use Rattle.quay_weight.specs.Weights.{valueOut, differenceRead}
 use Rattle.quay_message.specs.declared.messages.QuayWhat.{QuayWhat}
 use Rattle.quay_message.specs.Messages.{whatOut, receivedOut, messageIn}
 use Rattle.quay_log.specs.Records.{noDigits, recordOut, noRecord, readOut, steppedOut, notedOut, recordHeard}
-use Rattle.demands.proofs.WrittenDown.{read-legal}
+use Rattle.demands.proofs.ByFamily.{read-legal, undecimal-unread, refused-by-8}
 use Rattle.demands.specs.Unheard.{NotesNoWeight, NotesItsWeight, ReadsAsNone, WeightOf, HandsOnNoWeight, SaysNoWeight, HandsOnItsWeight, saysWeight, SaysItsWeight, NeverAWeight, AlwaysItsWeight}
 
 -- ---- the weight that a record notes
@@ -81,7 +83,7 @@ notes-none item none = record { no-reading = by-kind (wasMet item) refl; its-ref
     by-kind false unmet = not-good item none unmet
 
 -- a weighing is of kind 1 or 2, and so was not met
-not-met : (item : Record) → weighs item ≡ true → wasMet item ≡ false
+pub not-met : (item : Record) → weighs item ≡ true → wasMet item ≡ false
 not-met item weighing = by-gross (eqb (item .kind) 1) refl
   where
     by-gross : (gross : Bool) → eqb (item .kind) 1 ≡ gross → wasMet item ≡ false
@@ -129,14 +131,11 @@ notes-its item is-good weighing small = by-read (readingIn item) refl (and-eq-tr
 -- ---- bytes that read as no weight
 
 less-none : (gross : FourBytes) → valueOut (differenceRead (readOf gross) (read-as.Refused FieldOutside)) ≡ valueOut (value-as.Refused FieldOutside)
-unfolding readOf
-less-none gross = by-digits (allDecimal (gross .w0) (gross .w1) (gross .w2))
+less-none gross = by-read (readOf gross) refl
   where
-    by-digits : (digits : Bool)
-        → valueOut (differenceRead (cond digits (read-as.Good (readingOf (digitsOf (gross .w0) (gross .w1) (gross .w2)) (gross .con))) (read-as.Refused FieldOutside)) (read-as.Refused FieldOutside))
-        ≡ valueOut (value-as.Refused FieldOutside)
-    by-digits true = refl
-    by-digits false = refl
+    by-read : (read : Read) → readOf gross ≡ read → valueOut (differenceRead read (read-as.Refused FieldOutside)) ≡ valueOut (value-as.Refused FieldOutside)
+    by-read (read-as.Good reading) was = refl
+    by-read (read-as.Refused why) was = rw (refused-by-8 gross why was)
 
 no-weight : (weight : FourBytes) → readOf weight ≡ read-as.Refused FieldOutside → ReadsAsNone weight
 no-weight weight e = record {
@@ -147,10 +146,9 @@ no-weight weight e = record {
   as-net = λ (gross : FourBytes). rw e (less-none gross);
 }
 
--- three bytes FF read as none, whatever stands for CON
-no-digits : (con : ℕ) → ReadsAsNone (record { w0 = noDigits; w1 = noDigits; w2 = noDigits; con = con })
-unfolding readOf
-no-digits con = no-weight _ refl
+-- three bytes FF read as none, whatever stands for CON and for the family
+no-digits : (con family : ℕ) → ReadsAsNone (record { w0 = noDigits; w1 = noDigits; w2 = noDigits; con = con; family = family })
+no-digits con family = no-weight _ (undecimal-unread _ refl)
 
 -- ---- what crosses
 
@@ -158,14 +156,14 @@ out-none : (item : Record) → weighs item ≡ false → HandsOnNoWeight (record
 out-none item none = record {
   no-gross = λ (e : item .kind ≡ 1). not-both item none (rw e);
   no-net = λ (e : item .kind ≡ 2). not-both item none (rw e);
-  no-weight = rw none (no-digits (item .status));
+  no-weight = rw none (no-digits (item .status) (item .family));
 }
   where
     not-both : (item : Record) → weighs item ≡ false → weighs item ≡ true → ⊥
     not-both item none weighing = let clash : _≡_ {A = ℕ} 0 1 = cc in omega arith
 
 nothing-none : (refusal : ℕ) → HandsOnNoWeight (noRecord refusal)
-nothing-none refusal = record { no-gross = λ (e : _≡_ {A = ℕ} 0 1). omega (arith, e); no-net = λ (e : _≡_ {A = ℕ} 0 2). omega (arith, e); no-weight = no-digits 0 }
+nothing-none refusal = record { no-gross = λ (e : _≡_ {A = ℕ} 0 1). omega (arith, e); no-net = λ (e : _≡_ {A = ℕ} 0 2). omega (arith, e); no-weight = no-digits 0 255 }
 
 read-none : (entry : RecordRead) → ((item : Record) → entry ≡ record-read-as.Record item → weighs item ≡ false) → HandsOnNoWeight (readOut entry)
 read-none (record-read-as.Record item) none = out-none item (none item refl)
@@ -182,17 +180,19 @@ noted-none (noted-as.Record item) none = out-none item (none item refl)
 noted-none noted-as.Nothing none = nothing-none 0
 noted-none (noted-as.Refused why) none = nothing-none (numberOf why)
 
-heard-none : (time : ℕ) (asked : Asked) (given : Given) (body : List ℕ)
-    → ((role : Role) (event : Event) (item : Record) → asked ≡ asked-as.Role role → given ≡ given-as.Event event
-    → notedHeard time role (heardAs event body) ≡ noted-as.Record item → weighs item ≡ false)
-    → HandsOnNoWeight (recordHeard time asked given body)
-heard-none time (asked-as.Refused why) given body none = nothing-none (numberOf why)
-heard-none time (asked-as.Role role) (given-as.Refused why) body none = nothing-none (numberOf why)
-heard-none time (asked-as.Role role) (given-as.Event event) body none = noted-none (notedHeard time role (heardAs event body)) (λ item. none role event item refl refl)
+heard-none : (time : ℕ) (asked : Asked) (kin : Kin) (given : Given) (body : List ℕ)
+    → ((role : Role) (family : Family) (event : Event) (item : Record) → asked ≡ asked-as.Role role → kin ≡ kin-as.Family family → given ≡ given-as.Event event
+    → notedHeard time role family (heardAs event body) ≡ noted-as.Record item → weighs item ≡ false)
+    → HandsOnNoWeight (recordHeard time asked kin given body)
+heard-none time (asked-as.Refused why) kin given body none = nothing-none (numberOf why)
+heard-none time (asked-as.Role role) (kin-as.Refused why) given body none = nothing-none (numberOf why)
+heard-none time (asked-as.Role role) (kin-as.Family family) (given-as.Refused why) body none = nothing-none (numberOf why)
+heard-none time (asked-as.Role role) (kin-as.Family family) (given-as.Event event) body none =
+    noted-none (notedHeard time role family (heardAs event body)) (λ item. none role family event item refl refl refl)
 
 -- a message across that says another thing than a weight, or nothing
-other-said : (what : QuayWhat) → (what .says ≡ saysWeight → ⊥) → what .weight ≡ record { w0 = noDigits; w1 = noDigits; w2 = noDigits; con = 255 } → SaysNoWeight what
-other-said what other none = record { other = other; no-weight = rw none (no-digits 255) }
+other-said : (what : QuayWhat) → (what .says ≡ saysWeight → ⊥) → what .weight ≡ record { w0 = noDigits; w1 = noDigits; w2 = noDigits; con = 255; family = 255 } → SaysNoWeight what
+other-said what other none = record { other = other; no-weight = rw none (no-digits 255 255) }
 
 said-none : (what : What) → weightSaid what ≡ said-as.NoWeight → SaysNoWeight (whatOut what)
 said-none (says.Weight said) none = let clash : _≡_ {A = ℕ} 0 1 = cc in absurd (omega arith)
@@ -212,33 +212,36 @@ received-none : (received : Received) → ((message : Message) → received ≡ 
 received-none (received-as.Message message) none = said-none (message .what) (none message refl)
 received-none (received-as.Refused why) none = said-none says.Nothing refl
 
-message-none : (asked : Asked) (body : List ℕ)
-    → ((role : Role) (message : Message) → asked ≡ asked-as.Role role → readMessage role body ≡ received-as.Message message → weightSaid (message .what) ≡ said-as.NoWeight)
-    → SaysNoWeight (messageIn asked body .what)
-message-none (asked-as.Role role) body none = received-none (readMessage role body) (λ message. none role message refl)
-message-none (asked-as.Refused why) body none = said-none says.Nothing refl
+message-none : (asked : Asked) (kin : Kin) (body : List ℕ)
+    → ((role : Role) (family : Family) (message : Message) → asked ≡ asked-as.Role role → kin ≡ kin-as.Family family
+    → readMessage role family body ≡ received-as.Message message → weightSaid (message .what) ≡ said-as.NoWeight)
+    → SaysNoWeight (messageIn asked kin body .what)
+message-none (asked-as.Role role) (kin-as.Family family) body none = received-none (readMessage role family body) (λ message. none role family message refl refl)
+message-none (asked-as.Role role) (kin-as.Refused why) body none = said-none says.Nothing refl
+message-none (asked-as.Refused why) kin body none = said-none says.Nothing refl
 
 pub never-a-weight : NeverAWeight
 never-a-weight = record {
   unweighed = notes-none;
   record-read = λ (bytes : List ℕ). read-none (readRecord bytes);
   log-stepped = λ (log : List ℕ) (place : ℕ). stepped-none place (stepped log place);
-  event-recorded = λ (time number : ℕ) (event : QuayEvent) (body : List ℕ). heard-none time (roleFrom number) (eventFrom event) body;
-  message-read = λ (number : ℕ) (body : List ℕ). message-none (roleFrom number) body;
+  event-recorded = λ (time number kin : ℕ) (event : QuayEvent) (body : List ℕ). heard-none time (roleFrom number) (familyFrom kin) (eventFrom event) body;
+  message-read = λ (number kin : ℕ) (body : List ℕ). message-none (roleFrom number) (familyFrom kin) body;
 }
 
 -- ---- the other half
 
-says-its : (role : Role) (body : List ℕ) (message : Message) (said : SaidWeight) → T (areBytes body) → readMessage role body ≡ received-as.Message message
-    → weightSaid (message .what) ≡ said-as.Weight said → SaysItsWeight said body (messageIn (asked-as.Role role) body)
-says-its role body message said all was says =
+says-its : (role : Role) (family : Family) (body : List ℕ) (message : Message) (said : SaidWeight) → T (areBytes body) → readMessage role family body ≡ received-as.Message message
+    → weightSaid (message .what) ≡ said-as.Weight said → SaysItsWeight family said body (messageIn (asked-as.Role role) (kin-as.Family family) body)
+says-its role family body message said all was says =
     let is = says-that (message .what) said says in
     record {
       good = rw was;
       says = rw (was, is);
       kind = rw (was, is);
-      bytes = rw (was, is) (spelled role body message was said says);
-      weight = rw (was, is) (weight-of (said .reading) (said .bytes) (status-small role body message was said says all) (carries role body message was said says .reads));
+      of-line = rw (was, is) (said-family role family body message was said says);
+      bytes = rw (was, is) (spelled role family body message was said says);
+      weight = rw (was, is) (weight-of (said .reading) (said .bytes) (status-small role family body message was said says all) (carries role family body message was said says .reads));
     }
 
 pub always-its-weight : AlwaysItsWeight
@@ -246,6 +249,6 @@ always-its-weight = record {
   weighed = notes-its;
   record-read = λ bytes item was weighing. rw was (hands-on item weighing);
   log-stepped = λ log place next item was weighing. rw was (hands-on item weighing);
-  event-recorded = λ time number role event given body item asked is was weighing. rw (asked, is, was) (hands-on item weighing);
-  message-read = λ number role body message said all asked was says. rw asked (says-its role body message said all was says);
+  event-recorded = λ time number kin role family event given body item asked by is was weighing. rw (asked, by, is, was) (hands-on item weighing);
+  message-read = λ number kin role family body message said all asked by was says. rw (asked, by) (says-its role family body message said all was says);
 }

@@ -20,6 +20,7 @@ use Rattle.line.specs.Listener.{Heard, nothing, frame, refused, Listener, Step,
 use Rattle.line.specs.Readers.{view, keptOf}
 use Rattle.line.proofs.EveryStep.{every-step, every-told, every-event}
 use Rattle.line.proofs.Joined.{kept-front}
+use Rattle.weight.specs.declared.families.Family.{Family}
 use Rattle.weight.specs.declared.FourBytes.{FourBytes}
 use Rattle.weight.specs.declared.Reading.{Reading}
 use Rattle.weight.specs.Bytes.{inOrder, packedOf}
@@ -39,12 +40,13 @@ use Rattle.weighing_log.specs.declared.hearing.Noted.the-variants as noted-as
 use Rattle.weighing_log.specs.Hearing.{notedHeard}
 use Rattle.weighing_log.specs.Heard.{codeOf}
 use Rattle.weighing_log.proofs.Heard.{refusal-kind}
-use Rattle.weighing_log.proofs.Weighings.{heard as weighing-heard, address-is, said-code, spelled, packed-back}
+use Rattle.weighing_log.proofs.Weighings.{heard as weighing-heard, address-is, said-code, spelled, packed-back, carries, said-family}
 use Rattle.entries.specs.declared.entries.Entry.{Entry}
 use Rattle.entries.specs.declared.entries.Entry.the-variants.{Weight}
 use Rattle.entries.specs.Entries.{messageEntry, entryOf, entryHeard}
 use Rattle.entries.proofs.Handed.{handed-out}
 use Rattle.listing.proofs.Handed.{lists-the-same}
+use Rattle.demands.proofs.ByFamily.{same-family, read-family}
 use Rattle.demands.specs.Weighings.{ReplyHeard, Among, WeighingHeard, NotedAsHeard, noteThen, recordsFrom, LogAsHeard, ListedHeard, ListedAsHeard, ListingAsHeard, CheckedOnce}
 
 -- ---- what a line hands out
@@ -104,23 +106,24 @@ reply : (wire kept : ℕ) (body : List ℕ) → Whole (frame wire kept body) →
 reply wire kept body (all, good) is-address is-code is-data =
     record { wire = wire; kept = kept; body = ap (frame wire kept) (sym (rebuilt body all good) ∙ rw (is-address, is-code, ← is-data)) }
 
-noted : (heard : Heard) → Whole heard → (time : ℕ) (role : Role) (item : Record) → notedHeard time role heard ≡ noted-as.Record item → (item .kind ≡ 3 → ⊥)
-    → (item .time ≡ time) × WeighingHeard role item heard
-noted nothing is-whole time role item e weighing = let clash : _≡_ {A = ℕ} 0 1 = cc in absurd (omega arith)
-noted (frame wire kept body) is-whole time role item e weighing =
-    let was = weighing-heard role time body item e weighing in (
+noted : (heard : Heard) → Whole heard → (time : ℕ) (role : Role) (family : Family) (item : Record) → notedHeard time role family heard ≡ noted-as.Record item → (item .kind ≡ 3 → ⊥)
+    → (item .time ≡ time) × WeighingHeard role family item heard
+noted nothing is-whole time role family item e weighing = let clash : _≡_ {A = ℕ} 0 1 = cc in absurd (omega arith)
+noted (frame wire kept body) is-whole time role family item e weighing =
+    let was = weighing-heard role family time body item e weighing in (
       was .at-time,
       record {
         load = was .load;
         kind = was .kind;
         as-reply = was .reply;
+        of-line = was .of-line;
         reply = reply wire kept body is-whole (sym (was .address)) (was .code) (was .weight);
       },
     )
-noted (refused why wire kept) is-whole time role item e weighing = absurd (weighing (refusal-kind time why item e))
+noted (refused why wire kept) is-whole time role family item e weighing = absurd (weighing (refusal-kind time why item e))
 
 -- an entry is a weight only where a message says one
-module _ (load : Load) (address : Address) (reading : Reading) where
+module _ (family : Family) (load : Load) (address : Address) (reading : Reading) where
   record SaysIt (weight : WeightOrNot) (from : Address) : Type 0 where
     said : SaidWeight
     says : weight ≡ said-as.Weight said
@@ -132,30 +135,34 @@ module _ (load : Load) (address : Address) (reading : Reading) where
   says-weight from code (said-as.Weight said) e = record { said = said; says = refl; same-load = cc; same-reading = cc; same-address = cc }
   says-weight from code said-as.NoWeight e = let clash : _≡_ {A = ℕ} 0 1 = cc in absurd (omega arith)
 
-  read-listed : (wire kept : ℕ) (body : List ℕ) → Whole (frame wire kept body) → (received : Received) → readMessage Reply body ≡ received
-      → entryOf received ≡ Weight load address reading → ListedHeard load address reading (frame wire kept body)
+  read-listed : (wire kept : ℕ) (body : List ℕ) → Whole (frame wire kept body) → (received : Received) → readMessage Reply family body ≡ received
+      → entryOf received ≡ Weight load address reading → ListedHeard family load address reading (frame wire kept body)
   read-listed wire kept body is-whole (received-as.Message message) was e =
       let it = says-weight (message .address) (message .code) (weightSaid (message .what)) e in
       record {
         four = it .said .bytes;
-        packed = ap packedOf (sym (it .same-reading)) ∙ packed-back Reply body message was (it .said) (it .says) (is-whole .0);
+        of-line =
+            ap (λ (one : Reading). one .family) (sym (it .same-reading))
+            ∙ same-family (it .said .reading .family) family
+            (read-family (it .said .bytes) (it .said .reading) (carries Reply family body message was (it .said) (it .says) .reads) ∙ said-family Reply family body message was (it .said) (it .says));
+        packed = ap packedOf (sym (it .same-reading)) ∙ packed-back Reply family body message was (it .said) (it .says) (is-whole .0);
         reply =
-            reply wire kept body is-whole (sym (address-is Reply body message was) ∙ it .same-address)
-            (said-code Reply body message was (it .said) (it .says) .1 ∙ ap codeOf (it .same-load)) (spelled Reply body message was (it .said) (it .says));
+            reply wire kept body is-whole (sym (address-is Reply family body message was) ∙ it .same-address)
+            (said-code Reply family body message was (it .said) (it .says) .1 ∙ ap codeOf (it .same-load)) (spelled Reply family body message was (it .said) (it .says));
       }
   read-listed wire kept body is-whole (received-as.Refused why) was e = let clash : _≡_ {A = ℕ} 0 1 = cc in absurd (omega arith)
 
-  listed : (heard : Heard) → Whole heard → entryHeard heard ≡ Weight load address reading → ListedHeard load address reading heard
+  listed : (heard : Heard) → Whole heard → entryHeard family heard ≡ Weight load address reading → ListedHeard family load address reading heard
   unfolding entryHeard
   listed nothing is-whole e = let clash : _≡_ {A = ℕ} 0 1 = cc in absurd (omega arith)
-  listed (frame wire kept body) is-whole e = read-listed wire kept body is-whole (readMessage Reply body) refl e
+  listed (frame wire kept body) is-whole e = read-listed wire kept body is-whole (readMessage Reply family body) refl e
   listed (refused why wire kept) is-whole e = let clash : _≡_ {A = ℕ} 0 1 = cc in absurd (omega arith)
 
 pub noted-as-heard : NotedAsHeard
 noted-as-heard reader all byte = noted (hear (view reader) byte .event) (whole (view reader) byte (handed reader all))
 
 pub listed-as-heard : ListedAsHeard
-listed-as-heard reader all byte load address reading = listed load address reading (hear (view reader) byte .event) (whole (view reader) byte (handed reader all))
+listed-as-heard reader all byte family load address reading = listed family load address reading (hear (view reader) byte .event) (whole (view reader) byte (handed reader all))
 
 -- ---- all events
 
@@ -166,40 +173,40 @@ one-on : {Such : Heard → Type 0} {heard : Heard} {later : List Heard} → Amon
 one-on found = record { event = found .event; among = List·Memᴰ·tail (found .among); such = found .such }
 
 -- a record of the log was made of one of the events: such an event as each is that it is made of
-module _ (Known Such : Heard → Type 0) (time : ℕ → ℕ) (role : Role) (item : Record)
-    (each : (heard : Heard) (number : ℕ) → Known heard → notedHeard (time number) role heard ≡ noted-as.Record item → Such heard) where
+module _ (Known Such : Heard → Type 0) (time : ℕ → ℕ) (role : Role) (family : Family) (item : Record)
+    (each : (heard : Heard) (number : ℕ) → Known heard → notedHeard (time number) role family heard ≡ noted-as.Record item → Such heard) where
   by-note : (heard : Heard) (later : List Heard) (number : ℕ) → Known heard → (records : List Record) → (List·Memᴰ item records → Among later Such) → (made : Noted)
-      → notedHeard (time number) role heard ≡ made → List·Memᴰ item (noteThen made records) → Among (heard ∷ later) Such
+      → notedHeard (time number) role family heard ≡ made → List·Memᴰ item (noteThen made records) → Among (heard ∷ later) Such
   by-note heard later number known records behind noted-as.Nothing e among = one-on (behind among)
   by-note heard later number known records behind (noted-as.Record other) e (List·Memᴰ·head same) =
       record { event = heard; among = List·Memᴰ·head refl; such = each heard number known (e ∙ ap noted-as.Record (sym same)) }
   by-note heard later number known records behind (noted-as.Record other) e (List·Memᴰ·tail among) = one-on (behind among)
   by-note heard later number known records behind (noted-as.Refused why) e among = one-on (behind among)
 
-  pub in-log : (heard : List Heard) (number : ℕ) → Of Known heard → List·Memᴰ item (recordsFrom time role number heard) → Among heard Such
+  pub in-log : (heard : List Heard) (number : ℕ) → Of Known heard → List·Memᴰ item (recordsFrom time role family number heard) → Among heard Such
   unfolding recordsFrom
   in-log [] number all among = absurd (List·Memᴰ·not-nil among)
   in-log (heard ∷ later) number all among =
-      by-note heard later number (all heard (List·Memᴰ·head refl)) (recordsFrom time role (number + 1) later)
-      (in-log later (number + 1) (λ one behind. all one (List·Memᴰ·tail behind))) (notedHeard (time number) role heard) refl among
+      by-note heard later number (all heard (List·Memᴰ·head refl)) (recordsFrom time role family (number + 1) later)
+      (in-log later (number + 1) (λ one behind. all one (List·Memᴰ·tail behind))) (notedHeard (time number) role family heard) refl among
 
 pub log-as-heard : LogAsHeard
-log-as-heard reader all bytes small time role item among weighing =
-    in-log Whole (WeighingHeard role item) time role item (λ heard number is-whole e. noted heard is-whole (time number) role item e weighing .1)
+log-as-heard reader all bytes small time role family item among weighing =
+    in-log Whole (WeighingHeard role family item) time role family item (λ heard number is-whole e. noted heard is-whole (time number) role family item e weighing .1)
     (events (view reader) bytes) 1 (all-whole reader all bytes small) among
 
 -- the same of an entry of the listing
-module _ (Known Such : Heard → Type 0) (entry : Entry) (each : (heard : Heard) → Known heard → entryHeard heard ≡ entry → Such heard) where
-  pub in-listing : (heard : List Heard) → Of Known heard → List·Memᴰ entry (map entryHeard heard) → Among heard Such
+module _ (Known Such : Heard → Type 0) (family : Family) (entry : Entry) (each : (heard : Heard) → Known heard → entryHeard family heard ≡ entry → Such heard) where
+  pub in-listing : (heard : List Heard) → Of Known heard → List·Memᴰ entry (map (entryHeard family) heard) → Among heard Such
   in-listing [] all among = absurd (List·Memᴰ·not-nil among)
   in-listing (heard ∷ later) all (List·Memᴰ·head same) =
       record { event = heard; among = List·Memᴰ·head refl; such = each heard (all heard (List·Memᴰ·head refl)) (sym same) }
   in-listing (heard ∷ later) all (List·Memᴰ·tail among) = one-on (in-listing later (λ one behind. all one (List·Memᴰ·tail behind)) among)
 
 pub listing-as-heard : ListingAsHeard
-listing-as-heard reader all bytes small load address reading =
-    in-listing Whole (ListedHeard load address reading) (Weight load address reading) (listed load address reading) (events (view reader) bytes)
+listing-as-heard reader all bytes small family load address reading =
+    in-listing Whole (ListedHeard family load address reading) family (Weight load address reading) (listed family load address reading) (events (view reader) bytes)
     (all-whole reader all bytes small)
 
 pub checked-once : CheckedOnce
-checked-once listener bytes = record { entries = handed-out listener bytes; lines = lists-the-same listener bytes }
+checked-once family listener bytes = record { entries = handed-out family listener bytes; lines = lists-the-same family listener bytes }

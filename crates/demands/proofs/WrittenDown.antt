@@ -2,20 +2,13 @@
 -- Why: what was read has a legal address and a reading within its ranges, a record that is made is good, and a line refuses by 1 to 8.
 use Prim.Native.Nat.{ℕ}
 use mathlib.Core.Path.{_≡_, refl}
-use mathlib.Core.Bool.{Bool, true, false, cond}
+use mathlib.Core.Bool.{true}
 use mathlib.Core.List.{List}
 use native.Mathlib.Omega.{arith}
 use Rattle.refusal.specs.declared.Refusal.{Refusal}
-use Rattle.refusal.specs.declared.Refusal.the-variants.{FieldOutside}
 use Rattle.room.specs.Writing.{written}
 use Rattle.line.specs.Listener.{Heard, nothing, frame, refused, hear}
-use Rattle.weight.specs.declared.FourBytes.{FourBytes}
-use Rattle.weight.specs.declared.Reading.{Reading}
-use Rattle.weight.specs.declared.Read.the-variants as read-as
-use Rattle.weight.specs.Digits.{allDecimal, digitsOf}
-use Rattle.weight.specs.Status.{readingOf}
-use Rattle.weight.specs.Bytes.{inRange, readOf}
-use Rattle.weight.proofs.RoundTrip.{legal-of-read}
+use Rattle.weight.specs.declared.families.Family.{Family}
 use Rattle.codes.specs.declared.table.Role.{Role}
 use Rattle.codes.specs.declared.table.Role.the-variants.{Reply}
 use Rattle.meaning.specs.declared.meaning.WeightOrNot.{WeightOrNot}
@@ -38,6 +31,7 @@ use Rattle.entries.specs.declared.entries.Entry.the-variants as entry-as
 use Rattle.entries.specs.Entries.{messageEntry, entryOf, entryHeard, sound}
 use Rattle.listing.specs.Lines.{lineOf}
 use Rattle.listing.specs.Writing.{writtenLine}
+use Rattle.demands.proofs.ByFamily.{read-legal}
 use Rattle.demands.proofs.Logs.{noted-good}
 use Rattle.demands.proofs.Noted.{Met, Told, line-told}
 use Rattle.message.proofs.Refusals.{message-refuses}
@@ -45,46 +39,33 @@ use Rattle.demands.specs.WrittenDown.{Sound, AlwaysWritten}
 
 -- ---- a message that was read
 
--- a reading that was read lies within its ranges
-pub read-legal : (bytes : FourBytes) (reading : Reading) → readOf bytes ≡ read-as.Good reading → inRange reading ≡ true
-unfolding readOf
-read-legal bytes reading = by-decimal (allDecimal (bytes .w0) (bytes .w1) (bytes .w2)) refl
-  where
-    shown : Reading
-    shown = readingOf (digitsOf (bytes .w0) (bytes .w1) (bytes .w2)) (bytes .con)
-
-    by-decimal : (decimal : Bool) → allDecimal (bytes .w0) (bytes .w1) (bytes .w2) ≡ decimal → cond decimal (read-as.Good shown) (read-as.Refused FieldOutside) ≡ read-as.Good reading
-        → inRange reading ≡ true
-    by-decimal true good e = let same : reading ≡ shown = cc in rw same (legal-of-read (bytes .w0) (bytes .w1) (bytes .w2) (bytes .con) good)
-    by-decimal false good e = cc
-
-module _ (body : List ℕ) (message : Message) (was : readMessage Reply body ≡ received-as.Message message) where
+module _ (family : Family) (body : List ℕ) (message : Message) (was : readMessage Reply family body ≡ received-as.Message message) where
   message-sound : Sound (entryOf (received-as.Message message))
   message-sound = by-saying (weightSaid (message .what)) refl
     where
       by-saying : (weight : WeightOrNot) → weightSaid (message .what) ≡ weight → Sound (messageEntry (message .address) (message .code) weight)
-      by-saying (said-as.Weight said) says = (address-legal Reply body message was, read-legal (said .bytes) (said .reading) (carries Reply body message was said says .reads))
-      by-saying said-as.NoWeight says = address-legal Reply body message was
+      by-saying (said-as.Weight said) says = (address-legal Reply family body message was, read-legal (said .bytes) (said .reading) (carries Reply family body message was said says .reads))
+      by-saying said-as.NoWeight says = address-legal Reply family body message was
 
 -- ---- a body, and an event
 
-body-sound : (body : List ℕ) (received : Received) → readMessage Reply body ≡ received → Sound (entryOf received)
-body-sound body (received-as.Message message) was = message-sound body message was
-body-sound body (received-as.Refused why) was = message-refuses Met body refl refl (λ _. refl) refl refl refl refl Reply why was
+body-sound : (family : Family) (body : List ℕ) (received : Received) → readMessage Reply family body ≡ received → Sound (entryOf received)
+body-sound family body (received-as.Message message) was = message-sound family body message was
+body-sound family body (received-as.Refused why) was = message-refuses Met body refl refl (λ _. refl) refl refl refl refl Reply family why was
 
 met-noted : (time : ℕ) (met why : Refusal) → Met met → recordOf time (received-as.Refused met) ≡ noted-as.Refused why → ⊥
 met-noted time met why is-met e = let made = met-made time met is-met in let clash : _≡_ {A = ℕ} 0 1 = cc in omega arith
 
-event-sound : (heard : Heard) → Told heard → Sound (entryHeard heard)
+event-sound : (family : Family) (heard : Heard) → Told heard → Sound (entryHeard family heard)
 unfolding entryHeard
-event-sound nothing met = tt
-event-sound (frame wire kept body) met = body-sound body (readMessage Reply body) refl
-event-sound (refused why wire kept) met = met
+event-sound family nothing met = tt
+event-sound family (frame wire kept body) met = body-sound family body (readMessage Reply family body) refl
+event-sound family (refused why wire kept) met = met
 
-event-noted : (heard : Heard) → Told heard → (time : ℕ) (role : Role) (why : Refusal) → notedHeard time role heard ≡ noted-as.Refused why → ⊥
-event-noted nothing met time role why e = let clash : _≡_ {A = ℕ} 0 1 = cc in omega arith
-event-noted (frame wire kept body) met time role why e = always-noted role time body why e
-event-noted (refused given wire kept) met time role why e = met-noted time given why met e
+event-noted : (heard : Heard) → Told heard → (time : ℕ) (role : Role) (family : Family) (why : Refusal) → notedHeard time role family heard ≡ noted-as.Refused why → ⊥
+event-noted nothing met time role family why e = let clash : _≡_ {A = ℕ} 0 1 = cc in omega arith
+event-noted (frame wire kept body) met time role family why e = always-noted role family time body why e
+event-noted (refused given wire kept) met time role family why e = met-noted time given why met e
 
 -- what is sound is refused by 9 alone
 line-sound : (entry : Entry) → Sound entry → sound entry ≡ true
@@ -97,14 +78,14 @@ line-written : (entry : Entry) → Sound entry → (number : ℕ) (room : List �
 unfolding writtenLine written
 line-written entry is number room = rw (line-sound entry is)
 
-record-written : (heard : Heard) (time : ℕ) (role : Role) (item : Record) (room : List ℕ) → notedHeard time role heard ≡ noted-as.Record item
+record-written : (heard : Heard) (time : ℕ) (role : Role) (family : Family) (item : Record) (room : List ℕ) → notedHeard time role family heard ≡ noted-as.Record item
     → writtenRecord item room ≡ written (bytesOfRecord item) room
 unfolding writtenRecord judgedRecord written
-record-written heard time role item room e = rw (noted-good time role heard item e .0, record-length item)
+record-written heard time role family item room e = rw (noted-good time role family heard item e .0, record-length item)
 
 pub always-written : AlwaysWritten
-always-written listener byte =
+always-written family listener byte =
     let heard = hear listener byte .event in
     let met = line-told listener byte in
-    let is = event-sound heard met in
-    record { sound = is; line = line-written (entryHeard heard) is; noted = event-noted heard met; item = record-written heard }
+    let is = event-sound family heard met in
+    record { sound = is; line = line-written (entryHeard family heard) is; noted = λ time role why. event-noted heard met time role family why; item = λ time role item room. record-written heard time role family item room }

@@ -1,5 +1,5 @@
 -- 01, "Judged examples": E1 to E8 as one table under one claim. The table has the bytes, what a fresh listener hears of them with both counts,
--- what the bodies say in a role, and the values of the weights among them. The claim also says that each body's frame is the bytes again.
+-- what the bodies say in a role, by a family, and the values of the weights among them. The claim also says that each body's frame is the bytes again.
 use Prim.Native.Nat.{ℕ}
 use mathlib.Core.Path.{_≡_}
 use mathlib.Core.Bool.{true, false}
@@ -11,8 +11,11 @@ use Rattle.body.specs.declared.addresses.Address.the-variants.{Short}
 use Rattle.body.specs.Body.{checkRight}
 use Rattle.frame.specs.Stuffing.{framed}
 use Rattle.line.specs.Listener.{Heard, nothing, frame, refused, fresh, events}
+use Rattle.weight.specs.declared.families.Family.{Family}
+use Rattle.weight.specs.declared.families.Family.the-variants.{Of002}
 use Rattle.weight.specs.declared.Value.{Value}
 use Rattle.weight.specs.declared.Value.the-variants.{Tenths}
+use Rattle.weight.specs.Families.{familyNumber}
 use Rattle.weight.specs.Tenths.{valueOf}
 use Rattle.codes.specs.declared.table.Role.{Role}
 use Rattle.codes.specs.declared.table.Role.the-variants.{Request, Reply}
@@ -31,6 +34,7 @@ pub record Example : Type 0 where
   pub bytes : List ℕ
   pub heard : List Heard
   pub role : Role
+  pub family : Family
   pub said : List Received
   pub values : List Value
 
@@ -57,8 +61,8 @@ valuesOf said = flatten (map (λ (received : Received). valueIn (entryOf receive
 abbrev pub computed : Example → Example
 computed example =
     let heard = events fresh (example .bytes) in
-    let said = map (readMessage (example .role)) (bodiesOf heard) in
-    record { bytes = example .bytes; heard = heard; role = example .role; said = said; values = valuesOf said }
+    let said = map (readMessage (example .role) (example .family)) (bodiesOf heard) in
+    record { bytes = example .bytes; heard = heard; role = example .role; family = example .family; said = said; values = valuesOf said }
 
 -- the frames of the bodies heard
 abbrev pub framedAgain : Example → List (List ℕ)
@@ -79,57 +83,61 @@ zeros count check = 0x01 ∷ (replicate count 0 ++ (check ∷ []))
 abbrev pub oneZeroMore : List ℕ
 oneZeroMore = zeros 254 0x01
 
--- "reply, 25.1 kg, not settled", and "reply, minus 0.5 kg, settled", each with its four bytes
-abbrev pub e3 : SaidWeight
-e3 = record {
+-- "reply, 25.1 kg, not settled", and "reply, minus 0.5 kg, settled", each with its four bytes, from a line of a family
+abbrev pub e3 : Family → SaidWeight
+e3 family = record {
   load = Gross;
-  bytes = record { w0 = 0x51; w1 = 0x02; w2 = 0x00; con = 0x01 };
-  reading = record { minus = false; number = 251; point = 1; bit6 = false; bit5 = false; settled = false; overload = false };
+  bytes = record { w0 = 0x51; w1 = 0x02; w2 = 0x00; con = 0x01; family = familyNumber family };
+  reading = record { minus = false; number = 251; point = 1; bit6 = false; bit5 = false; settled = false; overload = false; family = family };
 }
 
-abbrev pub e4 : SaidWeight
-e4 = record {
+abbrev pub e4 : Family → SaidWeight
+e4 family = record {
   load = Net;
-  bytes = record { w0 = 0x05; w1 = 0x00; w2 = 0x00; con = 0x91 };
-  reading = record { minus = true; number = 5; point = 1; bit6 = false; bit5 = false; settled = true; overload = false };
+  bytes = record { w0 = 0x05; w1 = 0x00; w2 = 0x00; con = 0x91; family = familyNumber family };
+  reading = record { minus = true; number = 5; point = 1; bit6 = false; bit5 = false; settled = true; overload = false; family = family };
 }
 
 abbrev pub examples : List Example
 examples =
-    record { bytes = 0xFF ∷ 0x01 ∷ 0xC3 ∷ 0xE3 ∷ 0xFF ∷ 0xFF ∷ []; heard = frame 6 3 (0x01 ∷ 0xC3 ∷ 0xE3 ∷ []) ∷ []; role = Request; said = from1 0xC3 2 says.Nothing ∷ []; values = [] }
-    ∷ record { bytes = 0xFF ∷ 0x01 ∷ 0xC2 ∷ 0x8A ∷ 0xFF ∷ 0xFF ∷ []; heard = frame 6 3 (0x01 ∷ 0xC2 ∷ 0x8A ∷ []) ∷ []; role = Request; said = from1 0xC2 2 says.Nothing ∷ []; values = [] }
+    record { bytes = 0xFF ∷ 0x01 ∷ 0xC3 ∷ 0xE3 ∷ 0xFF ∷ 0xFF ∷ []; heard = frame 6 3 (0x01 ∷ 0xC3 ∷ 0xE3 ∷ []) ∷ []; role = Request; family = Of002; said = from1 0xC3 2 says.Nothing ∷ []; values = [] }
+    ∷ record { bytes = 0xFF ∷ 0x01 ∷ 0xC2 ∷ 0x8A ∷ 0xFF ∷ 0xFF ∷ []; heard = frame 6 3 (0x01 ∷ 0xC2 ∷ 0x8A ∷ []) ∷ []; role = Request; family = Of002; said = from1 0xC2 2 says.Nothing ∷ []; values = [] }
     ∷ record {
       bytes = 0xFF ∷ 0x01 ∷ 0xC3 ∷ 0x51 ∷ 0x02 ∷ 0x00 ∷ 0x01 ∷ 0xDE ∷ 0xFF ∷ 0xFF ∷ [];
       heard = frame 10 7 (0x01 ∷ 0xC3 ∷ 0x51 ∷ 0x02 ∷ 0x00 ∷ 0x01 ∷ 0xDE ∷ []) ∷ [];
       role = Reply;
-      said = from1 0xC3 6 (says.Weight e3) ∷ [];
+      family = Of002;
+      said = from1 0xC3 6 (says.Weight (e3 Of002)) ∷ [];
       values = Tenths (pos 251_000_000) ∷ [];
     }
     ∷ record {
       bytes = 0xFF ∷ 0x01 ∷ 0xC2 ∷ 0x05 ∷ 0x00 ∷ 0x00 ∷ 0x91 ∷ 0x32 ∷ 0xFF ∷ 0xFF ∷ [];
       heard = frame 10 7 (0x01 ∷ 0xC2 ∷ 0x05 ∷ 0x00 ∷ 0x00 ∷ 0x91 ∷ 0x32 ∷ []) ∷ [];
       role = Reply;
-      said = from1 0xC2 6 (says.Weight e4) ∷ [];
+      family = Of002;
+      said = from1 0xC2 6 (says.Weight (e4 Of002)) ∷ [];
       values = Tenths (negsuc 4_999_999) ∷ [];
     }
     ∷ record {
       bytes = 0xFF ∷ 0x01 ∷ 0xA1 ∷ 0xFF ∷ 0xFE ∷ 0x00 ∷ 0x00 ∷ 0x39 ∷ 0xFF ∷ 0xFF ∷ [];
       heard = frame 10 6 (0x01 ∷ 0xA1 ∷ 0xFF ∷ 0x00 ∷ 0x00 ∷ 0x39 ∷ []) ∷ [];
       role = Reply;
+      family = Of002;
       said = from1 0xA1 5 (says.Serial 255) ∷ [];
       values = [];
     }
-    ∷ record { bytes = 0xFF ∷ 0x01 ∷ 0xC3 ∷ 0xE2 ∷ 0xFF ∷ 0xFF ∷ []; heard = refused CheckWrong 6 3 ∷ []; role = Reply; said = []; values = [] }
-    ∷ record { bytes = 0xFF ∷ 0x01 ∷ 0xFF ∷ 0xFF ∷ []; heard = refused BodyShort 4 1 ∷ []; role = Reply; said = []; values = [] }
-    ∷ record { bytes = 0xFF ∷ 0x01 ∷ 0xFF ∷ 0x02 ∷ []; heard = refused HeldBroken 4 1 ∷ []; role = Reply; said = []; values = [] }
+    ∷ record { bytes = 0xFF ∷ 0x01 ∷ 0xC3 ∷ 0xE2 ∷ 0xFF ∷ 0xFF ∷ []; heard = refused CheckWrong 6 3 ∷ []; role = Reply; family = Of002; said = []; values = [] }
+    ∷ record { bytes = 0xFF ∷ 0x01 ∷ 0xFF ∷ 0xFF ∷ []; heard = refused BodyShort 4 1 ∷ []; role = Reply; family = Of002; said = []; values = [] }
+    ∷ record { bytes = 0xFF ∷ 0x01 ∷ 0xFF ∷ 0x02 ∷ []; heard = refused HeldBroken 4 1 ∷ []; role = Reply; family = Of002; said = []; values = [] }
     ∷ record {
       bytes = 0xFF ∷ (zeros 253 0x27 ++ (0xFF ∷ 0xFF ∷ []));
       heard = frame 258 255 (zeros 253 0x27) ∷ [];
       role = Reply;
+      family = Of002;
       said = received-as.Refused CodeUnknown ∷ [];
       values = [];
     }
-    ∷ record { bytes = 0xFF ∷ (oneZeroMore ++ (0xFF ∷ 0xFF ∷ [])); heard = refused BodyLong 257 255 ∷ []; role = Reply; said = []; values = [] }
+    ∷ record { bytes = 0xFF ∷ (oneZeroMore ++ (0xFF ∷ 0xFF ∷ [])); heard = refused BodyLong 257 255 ∷ []; role = Reply; family = Of002; said = []; values = [] }
     ∷ []
 
 -- the one claim. What is heard, said and weighed is what the table says. What was heard whole is written as it was sent. The body that is

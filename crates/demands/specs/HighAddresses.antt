@@ -21,6 +21,7 @@ use Rattle.line.specs.declared.reading.Reader.{Reader}
 use Rattle.line.specs.declared.reading.Fed.{Fed}
 use Rattle.line.specs.Listener.{Heard, refused, fresh, events, after}
 use Rattle.line.specs.Readers.{view, fed}
+use Rattle.weight.specs.declared.families.Family.{Family}
 use Rattle.codes.specs.declared.table.Role.{Role}
 use Rattle.codes.specs.declared.table.Role.the-variants.{Reply}
 use Rattle.message.specs.declared.reading.Received.the-variants as received-as
@@ -52,11 +53,11 @@ pub record HeardWithoutFive (blocks : List (List ℕ)) : Type 0 where
   pub by-feed : (reader : Reader) → view reader ≡ fresh → LoopWithoutFive fed reader blocks
   pub by-listen : (reader : Reader) → length (reader .body) ≡ longest → view reader ≡ fresh → LoopWithoutFive listened reader blocks
 
--- nor does a frame among the events earn a 5 when its body is read as a message: the log that they make, in either role, has no record of a
+-- nor does a frame among the events earn a 5 when its body is read as a message: the log that they make, in either role and by each family, has no record of a
 -- refusal 5, and their listing no line `N refused 5`
 pub record WrittenWithoutFive (heard : List Heard) : Type 0 where
-  pub noted : (time : ℕ → ℕ) (role : Role) (item : Record) → List·Memᴰ item (recordsHeard time role heard) → item .kind ≡ metKind → item .status ≡ 5 → ⊥
-  pub listed : (why : Refusal) → List·Memᴰ (entry-as.Refused why) (map entryHeard heard) → numberOf why ≡ 5 → ⊥
+  pub noted : (time : ℕ → ℕ) (role : Role) (family : Family) (item : Record) → List·Memᴰ item (recordsHeard time role family heard) → item .kind ≡ metKind → item .status ≡ 5 → ⊥
+  pub listed : (family : Family) (why : Refusal) → List·Memᴰ (entry-as.Refused why) (map (entryHeard family) heard) → numberOf why ≡ 5 → ⊥
 
 pub record WithoutFive (blocks : List (List ℕ)) : Type 0 where
   pub heard : HeardWithoutFive blocks
@@ -91,7 +92,7 @@ pub record FiveEarned : Type 0 where
   pub handed-in : heardBy insideEmpty (stuffed fromFE ++ (0xFF ∷ 0xFF ∷ [])) ≡ refused AddressIllegal 5 3 ∷ []
   pub handed-in-ff : heardBy insideEmpty (stuffed fromFF ++ (0xFF ∷ 0xFF ∷ [])) ≡ refused AddressIllegal 6 3 ∷ []
   pub lent : map judgedLent (fromFE ∷ fromFF ∷ []) ≡ Refused AddressIllegal ∷ Refused AddressIllegal ∷ []
-  pub message : map (readMessage Reply) (fromFE ∷ fromFF ∷ []) ≡ received-as.Refused AddressIllegal ∷ received-as.Refused AddressIllegal ∷ []
+  pub message : (family : Family) → map (readMessage Reply family) (fromFE ∷ fromFF ∷ []) ≡ received-as.Refused AddressIllegal ∷ received-as.Refused AddressIllegal ∷ []
   pub writing : map verdictFrom (Short 0 ∷ Short 0xFE ∷ Short 0xFF ∷ Serial 16_777_216 ∷ []) ≡ replicate 4 (Refused AddressIllegal)
   pub accepted : map verdictFrom (Short 0x01 ∷ Short 0xFD ∷ Serial 16_777_215 ∷ []) ≡ replicate 3 Good
   pub no-event : map (events fresh) (framed fromFE ∷ framed fromFF ∷ []) ≡ [] ∷ [] ∷ []

@@ -1,6 +1,8 @@
+pub mod BeforeFamilies
 pub mod CaptureWalks
 pub mod Counts
 pub mod Examples
+pub mod Families
 pub mod HighAddresses
 pub mod Kept
 pub mod Logs

@@ -1,5 +1,5 @@
--- 02, request 1: "Log records of kinds 1 and 2 follow." So every log that was good stays good with the same records. This page keeps the rule as 01
--- had it, to say so. Kind 3 has no address and did not move: a log may hold a refusal 5 that was met when 9F was the limit.
+-- 02, request 1: "Log records of kinds 1 and 2 follow." Request 4: "Log records use byte 17 for the family .. 0 is an old record whose bits stay
+-- plain." So every log that was good stays good with the same records. This page keeps the rule as 01 had it, to say so. Kind 3 has no address and did not move: a log may hold a refusal 5 that was met when 9F was the limit.
 use Prim.Native.Nat.{ℕ, _^_, _≤_, _<_}
 use mathlib.Core.Path.{_≡_}
 use mathlib.Core.Bool.{Bool, true, false, cond, _&&_}
@@ -8,54 +8,69 @@ use mathlib.Core.Logic.{_⊎_}
 use lib.Dec.{leb, eqb}
 use lib.ListN.{length}
 use Rattle.refusal.specs.declared.Verdict.the-variants.{Good}
+use Rattle.refusal.specs.Numbers.{lineStatus}
 use Rattle.body.specs.declared.addresses.Address.the-variants.{Short}
 use Rattle.body.specs.Addresses.{highestShort}
+use Rattle.weight.specs.declared.families.Family.the-variants.{Plain}
+use Rattle.weight.specs.Digits.{allDecimal}
 use Rattle.weight.specs.Bytes.{readable}
 use Rattle.codes.specs.declared.table.Load.the-variants.{Gross}
 use Rattle.records.specs.declared.records.Record.{Record}
-use Rattle.records.specs.Records.{weighs, wasMet, readingIn, goodMet, good}
+use Rattle.records.specs.Records.{weighs, wasMet, goodAddress, readingIn, noAddress, weightZero, good}
 use Rattle.records.specs.Layout.{recordBytes, bytesOfRecord, recordIn, restZero}
 use Rattle.records.specs.Stepping.{wholeLog}
 use Rattle.weighing_log.specs.Hearing.{weighing, metOnLine}
 use Rattle.demands.specs.Examples.{e3}
 
--- 01: "address as on the wire (00 to 9F), serial zero for a short address"; the serial has three bytes
+-- 01: "address as on the wire (00 to 9F), serial zero for a short address"; the serial has three bytes. From request 1 on the limit was FD
 abbrev pub highestBefore : ℕ
 highestBefore = 0x9F
 
-abbrev pub goodAddressBefore : Record → Bool
-goodAddressBefore item = leb (item .address) highestBefore && cond (eqb (item .address) 0) (leb (item .serial) 16_777_215) (eqb (item .serial) 0)
+abbrev pub goodAddressUpTo : ℕ → Record → Bool
+goodAddressUpTo highest item = leb (item .address) highest && cond (eqb (item .address) 0) (leb (item .serial) 16_777_215) (eqb (item .serial) 0)
 
--- the rest of 01's rule, and the layout, are those of today; a request that moves one of them keeps 01's here
-abbrev pub goodBefore : Record → Bool
-goodBefore item = cond (weighs item) (goodAddressBefore item && readable (readingIn item)) (cond (wasMet item) (goodMet item) false)
+-- "status is CON", any byte; "weight bytes good decimal"
+abbrev pub goodWeighingUpTo : ℕ → Record → Bool
+goodWeighingUpTo highest item = goodAddressUpTo highest item && allDecimal (item .w0) (item .w1) (item .w2)
 
--- a log that was good, with its records: 20 bytes each, "17–19 zero", one behind the other, and nothing left over
-pub data WasGood : List ℕ → List Record → Type 0 where
-  empty : WasGood [] []
-  first : (bytes : List ℕ) {log : List ℕ} {items : List Record} → length bytes ≡ recordBytes → restZero bytes ≡ true → goodBefore (recordIn bytes) ≡ true
-      → WasGood log items → WasGood (bytes ++ log) (recordIn bytes ∷ items)
+-- "status 1 to 8, bytes 9–12 and 14–16 zero"
+abbrev pub goodMetBefore : Record → Bool
+goodMetBefore item = lineStatus (item .status) && noAddress item && weightZero item
 
+-- and byte 17 zero. The rest of 01's layout is that of today; a request that moves it keeps 01's here
+abbrev pub goodUpTo : ℕ → Record → Bool
+goodUpTo highest item = eqb (item .family) 0 && cond (weighs item) (goodWeighingUpTo highest item) (cond (wasMet item) (goodMetBefore item) false)
+
+-- a log that was good under some limit, with its records: 20 bytes each, "17–19 zero" (17 by `goodUpTo`), one behind the other, and nothing left over
+pub data WasGood (highest : ℕ) : List ℕ → List Record → Type 0 where
+  empty : WasGood highest [] []
+  first : (bytes : List ℕ) {log : List ℕ} {items : List Record} → length bytes ≡ recordBytes → restZero bytes ≡ true
+      → goodUpTo highest (recordIn bytes) ≡ true → WasGood highest log items → WasGood highest (bytes ++ log) (recordIn bytes ∷ items)
+
+-- under 01's limit and under request 1's
 abbrev pub StaysGood : Type 0
-StaysGood = (log : List ℕ) (items : List Record) → WasGood log items → wholeLog log ≡ record { records = items; ending = Good }
+StaysGood =
+    (highest : ℕ) → highest ≤ highestShort → (log : List ℕ) (items : List Record) → WasGood highest log items
+    → wholeLog log ≡ record { records = items; ending = Good }
 
 -- and no log is left out of WasGood: one that is whole now, each of whose records was good, was good
-abbrev pub EachBefore : List Record → Type 0
-EachBefore [] = Unit {0}
-EachBefore (item ∷ items) = (goodBefore item ≡ true) × EachBefore items
+abbrev pub EachBefore : ℕ → List Record → Type 0
+EachBefore highest [] = Unit {0}
+EachBefore highest (item ∷ items) = (goodUpTo highest item ≡ true) × EachBefore highest items
 
 abbrev pub WereGood : Type 0
-WereGood = (log : List ℕ) → wholeLog log .ending ≡ Good → EachBefore (wholeLog log .records) → WasGood log (wholeLog log .records)
+WereGood =
+    (highest : ℕ) (log : List ℕ) → wholeLog log .ending ≡ Good → EachBefore highest (wholeLog log .records) → WasGood highest log (wholeLog log .records)
 
 -- a log of one refusal 5 was good and is good (among other records: StaysGood)
 pub record FiveKept (time : ℕ) : Type 0 where
-  pub before : WasGood (bytesOfRecord (metOnLine time 5)) (metOnLine time 5 ∷ [])
+  pub before : WasGood highestBefore (bytesOfRecord (metOnLine time 5)) (metOnLine time 5 ∷ [])
   pub now : wholeLog (bytesOfRecord (metOnLine time 5)) ≡ record { records = metOnLine time 5 ∷ []; ending = Good }
 
 abbrev pub FiveStaysGood : Type 0
 FiveStaysGood = (time : ℕ) → time < 2 ^ 64 → FiveKept time
 
--- ---- what is good now and was not: a weighing from a higher short address, and nothing else
+-- ---- what is good now and was not: a weighing from a higher short address, or with a family, and nothing else
 
 pub record FromHigher (item : Record) : Type 0 where
   pub weighed : weighs item ≡ true
@@ -63,17 +78,30 @@ pub record FromHigher (item : Record) : Type 0 where
   pub most : item .address ≤ highestShort
   pub serial : item .serial ≡ 0
 
-abbrev pub OnlyHigherAdded : Type 0
-OnlyHigherAdded = (item : Record) → good item ≡ true → (goodBefore item ≡ true) ⊎ FromHigher item
+-- 02, request 4: "1 to 3 for 000 to 002"
+pub record WithFamily (item : Record) : Type 0 where
+  pub weighed : weighs item ≡ true
+  pub least : 1 ≤ item .family
+  pub most : item .family ≤ 3
 
--- "Log records of kinds 1 and 2 follow": each of them, where its digits are right
+abbrev pub OnlyThese : Type 0
+OnlyThese = (item : Record) → good item ≡ true → (goodUpTo highestBefore item ≡ true) ⊎ (FromHigher item ⊎ WithFamily item)
+
+-- by request 4 alone
+abbrev pub OnlyFamilies : Type 0
+OnlyFamilies = (item : Record) → good item ≡ true → (goodUpTo highestShort item ≡ true) ⊎ WithFamily item
+
+-- "Log records of kinds 1 and 2 follow": each of them, where its weight can be read
 abbrev pub HigherAdded : Type 0
-HigherAdded = (item : Record) → FromHigher item → readable (readingIn item) ≡ true → (good item ≡ true) × (goodBefore item ≡ false)
+HigherAdded = (item : Record) → FromHigher item → readable (readingIn item) ≡ true → (good item ≡ true) × (goodUpTo highestBefore item ≡ false)
+
+abbrev pub FamilyAdded : Type 0
+FamilyAdded = (item : Record) → WithFamily item → goodAddress item ≡ true → readable (readingIn item) ≡ true → (good item ≡ true) × (goodUpTo highestShort item ≡ false)
 
 -- the same gross reply from both ends of the old range, from both ends of what was added, and from beyond
 abbrev pub grossFrom : ℕ → Record
-grossFrom byte = weighing 0 (Short byte) Gross (e3 .bytes)
+grossFrom byte = weighing 0 (Short byte) Gross (e3 Plain .bytes)
 
 pub record Moved : Type 0 where
-  pub before : map (λ (byte : ℕ). goodBefore (grossFrom byte)) (0x01 ∷ 0x9F ∷ 0xA0 ∷ 0xFD ∷ 0xFE ∷ []) ≡ true ∷ true ∷ false ∷ false ∷ false ∷ []
+  pub before : map (λ (byte : ℕ). goodUpTo highestBefore (grossFrom byte)) (0x01 ∷ 0x9F ∷ 0xA0 ∷ 0xFD ∷ 0xFE ∷ []) ≡ true ∷ true ∷ false ∷ false ∷ false ∷ []
   pub now : map (λ (byte : ℕ). good (grossFrom byte)) (0x01 ∷ 0x9F ∷ 0xA0 ∷ 0xFD ∷ 0xFE ∷ []) ≡ true ∷ true ∷ true ∷ true ∷ false ∷ []

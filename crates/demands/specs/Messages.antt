@@ -1,5 +1,5 @@
--- Demand 2 at the message layer, over every role, address, code and data. What is written reads back as the same message. Each message that
--- is accepted gives back its own body bytes when written again with its own role, address, code and data. A message is refused by 6, 7, 8
+-- Demand 2 at the message layer, over every role, family, address, code and data. What is written reads back as the same message. Each message that
+-- is accepted gives back its own body bytes when written again with its own role, family, address, code and data. A message is refused by 6, 7, 8
 -- exactly as the table says.
 use Prim.Native.Nat.{ℕ, _≤_}
 use mathlib.Core.Path.{_≡_}
@@ -20,6 +20,7 @@ use Rattle.body.specs.Body.{bodyOf, judgedLent, codeIn, dataIn}
 use Rattle.frame.specs.Stuffing.{framed, needed}
 use Rattle.frame.specs.Writing.{judgedLength}
 use Rattle.line.specs.Listener.{frame, fresh, events}
+use Rattle.weight.specs.declared.families.Family.{Family}
 use Rattle.codes.specs.declared.table.Role.{Role}
 use Rattle.message.specs.declared.reading.Message.{Message}
 use Rattle.message.specs.declared.reading.Received.the-variants as received-as
@@ -36,27 +37,27 @@ abbrev pub writtenBytes : Left → List ℕ
 writtenBytes left = take (left .answer .length) (left .room)
 
 -- a fresh listener hears some bytes as one frame, and its body reads as a message with these parts
-pub record ReadsAs (role : Role) (address : Address) (code : ℕ) (data′ bytes : List ℕ) : Type 0 where
+pub record ReadsAs (role : Role) (family : Family) (address : Address) (code : ℕ) (data′ bytes : List ℕ) : Type 0 where
   pub heard : events fresh bytes ≡ frame (needed (bodyOf address code data′)) (length (bodyOf address code data′)) (bodyOf address code data′) ∷ []
-  pub message : readMessage role (bodyOf address code data′) ≡ received-as.Message (messageOf role address code data′)
-  pub stand : slice (messageOf role address code data′ .from) (messageOf role address code data′ .to) (bodyOf address code data′) ≡ data′
+  pub message : readMessage role family (bodyOf address code data′) ≡ received-as.Message (messageOf role family address code data′)
+  pub stand : slice (messageOf role family address code data′ .from) (messageOf role family address code data′ .to) (bodyOf address code data′) ≡ data′
 
 abbrev pub MessageReadsBack : Type 0
 MessageReadsBack =
-    (role : Role) (address : Address) (code : ℕ) (data′ room : List ℕ) → judgedMessageWrite role address code data′ room ≡ Good
-    → ReadsAs role address code data′ (writtenBytes (writtenMessage role address code data′ room))
+    (role : Role) (family : Family) (address : Address) (code : ℕ) (data′ room : List ℕ) → judgedMessageWrite role family address code data′ room ≡ Good
+    → ReadsAs role family address code data′ (writtenBytes (writtenMessage role family address code data′ room))
 
--- ---- "each message that is accepted gives back its own body bytes when written again with its own role, address, code and data"
+-- ---- "each message that is accepted gives back its own body bytes when written again with its own role, family, address, code and data"
 
-pub record WrittenAgain (role : Role) (body : List ℕ) (message : Message) (data′ : List ℕ) : Type 0 where
+pub record WrittenAgain (role : Role) (family : Family) (body : List ℕ) (message : Message) (data′ : List ℕ) : Type 0 where
   pub same : bodyOf (message .address) (message .code) data′ ≡ body
   pub written : (room : List ℕ) → needed body ≤ length room
-      → writtenMessage role (message .address) (message .code) data′ room ≡ wrote Good (framed body) room
+      → writtenMessage role family (message .address) (message .code) data′ room ≡ wrote Good (framed body) room
 
 abbrev pub AcceptedWritesBack : Type 0
 AcceptedWritesBack =
-    (role : Role) (body : List ℕ) (message : Message) → T (areBytes body) → readMessage role body ≡ received-as.Message message
-    → WrittenAgain role body message (slice (message .from) (message .to) body)
+    (role : Role) (family : Family) (body : List ℕ) (message : Message) → T (areBytes body) → readMessage role family body ≡ received-as.Message message
+    → WrittenAgain role family body message (slice (message .from) (message .to) body)
 
 -- ---- "a message is refused by 6, 7, 8 exactly as the table says"
 
@@ -71,23 +72,23 @@ pub record FirstToFail (known sized right : Bool) (after verdict : Verdict) : Ty
   pub outside : ExactlyWhere (verdict ≡ Refused FieldOutside) ((known ≡ true) × ((sized ≡ true) × (right ≡ false)))
   pub passed : (known ≡ true) × ((sized ≡ true) × (right ≡ true)) → verdict ≡ after
 
-abbrev pub AsTheTableSays : Role → ℕ → List ℕ → Verdict → Verdict → Type 0
-AsTheTableSays role code data′ =
-    FirstToFail (inTable (rowOf role code)) (lengthRight (lengthOf (rowOf role code)) data′) (fieldsRight (rowOf role code) data′)
+abbrev pub AsTheTableSays : Role → Family → ℕ → List ℕ → Verdict → Verdict → Type 0
+AsTheTableSays role family code data′ =
+    FirstToFail (inTable (rowOf role code)) (lengthRight (lengthOf (rowOf role code)) data′) (fieldsRight family (rowOf role code) data′)
 
 -- reading: 2, 1, 4, 5 come before, nothing comes after
-pub record ReadByTheTable (role : Role) (body : List ℕ) : Type 0 where
-  pub ahead : (why : Refusal) → judgedLent body ≡ Refused why → readMessage role body ≡ received-as.Refused why
-  pub then : judgedLent body ≡ Good → AsTheTableSays role (codeIn body) (dataIn body) Good (verdictOf (readMessage role body))
+pub record ReadByTheTable (role : Role) (family : Family) (body : List ℕ) : Type 0 where
+  pub ahead : (why : Refusal) → judgedLent body ≡ Refused why → readMessage role family body ≡ received-as.Refused why
+  pub then : judgedLent body ≡ Good → AsTheTableSays role family (codeIn body) (dataIn body) Good (verdictOf (readMessage role family body))
 
 abbrev pub ReadingRefuses : Type 0
-ReadingRefuses = (role : Role) (body : List ℕ) → ReadByTheTable role body
+ReadingRefuses = (role : Role) (family : Family) (body : List ℕ) → ReadByTheTable role family body
 
 -- writing: 5 comes before, 2 and 9 come after
-pub record WrittenByTheTable (role : Role) (address : Address) (code : ℕ) (data′ room : List ℕ) : Type 0 where
-  pub ahead : legal address ≡ false → writtenMessage role address code data′ room .answer .verdict ≡ Refused AddressIllegal
+pub record WrittenByTheTable (role : Role) (family : Family) (address : Address) (code : ℕ) (data′ room : List ℕ) : Type 0 where
+  pub ahead : legal address ≡ false → writtenMessage role family address code data′ room .answer .verdict ≡ Refused AddressIllegal
   pub then : legal address ≡ true
-      → AsTheTableSays role code data′ (judgedLength (bodyOf address code data′) (judgedRoom (needed (bodyOf address code data′)) room)) (writtenMessage role address code data′ room .answer .verdict)
+      → AsTheTableSays role family code data′ (judgedLength (bodyOf address code data′) (judgedRoom (needed (bodyOf address code data′)) room)) (writtenMessage role family address code data′ room .answer .verdict)
 
 abbrev pub WritingRefuses : Type 0
-WritingRefuses = (role : Role) (address : Address) (code : ℕ) (data′ room : List ℕ) → WrittenByTheTable role address code data′ room
+WritingRefuses = (role : Role) (family : Family) (address : Address) (code : ℕ) (data′ room : List ℕ) → WrittenByTheTable role family address code data′ room

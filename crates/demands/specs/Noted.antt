@@ -7,6 +7,7 @@ use mathlib.Core.List.{List}
 use Rattle.refusal.specs.declared.Refusal.{Refusal}
 use Rattle.refusal.specs.Numbers.{numberOf}
 use Rattle.line.specs.Listener.{Heard, Listener, frame, refused, hear}
+use Rattle.weight.specs.declared.families.Family.{Family}
 use Rattle.codes.specs.declared.table.Role.{Role}
 use Rattle.codes.specs.declared.table.Role.the-variants.{Reply}
 use Rattle.message.specs.declared.reading.Received.the-variants as received-as
@@ -17,31 +18,31 @@ use Rattle.entries.specs.declared.entries.Entry.the-variants as entry-as
 use Rattle.entries.specs.Entries.{entryHeard}
 
 -- an event in which a refusal was met is noted as its record
-abbrev pub IsNoted : ℕ → Role → Heard → Refusal → Type 0
-IsNoted time role heard why = notedHeard time role heard ≡ noted-as.Record (metOnLine time (numberOf why))
+abbrev pub IsNoted : ℕ → Role → Family → Heard → Refusal → Type 0
+IsNoted time role family heard why = notedHeard time role family heard ≡ noted-as.Record (metOnLine time (numberOf why))
 
 -- and listed as refused, with that refusal
-abbrev pub IsListed : Heard → Refusal → Type 0
-IsListed heard why = entryHeard heard ≡ entry-as.Refused why
+abbrev pub IsListed : Family → Heard → Refusal → Type 0
+IsListed family heard why = entryHeard family heard ≡ entry-as.Refused why
 
--- each refusal that a byte on the line gives, in whatever state and role
+-- each refusal that a byte on the line gives, in whatever state, role and family
 abbrev pub LineRefusalsNoted : Type 0
 LineRefusalsNoted =
-    (time : ℕ) (role : Role) (listener : Listener) (byte : ℕ) (why : Refusal) (wire kept : ℕ) → hear listener byte .event ≡ refused why wire kept
-    → IsNoted time role (hear listener byte .event) why
+    (time : ℕ) (role : Role) (family : Family) (listener : Listener) (byte : ℕ) (why : Refusal) (wire kept : ℕ) → hear listener byte .event ≡ refused why wire kept
+    → IsNoted time role family (hear listener byte .event) why
 
 abbrev pub LineRefusalsListed : Type 0
 LineRefusalsListed =
-    (listener : Listener) (byte : ℕ) (why : Refusal) (wire kept : ℕ) → hear listener byte .event ≡ refused why wire kept
-    → IsListed (hear listener byte .event) why
+    (family : Family) (listener : Listener) (byte : ℕ) (why : Refusal) (wire kept : ℕ) → hear listener byte .event ≡ refused why wire kept
+    → IsListed family (hear listener byte .event) why
 
--- each refusal that a frame's body earns, in either role
+-- each refusal that a frame's body earns, in either role, by each family
 abbrev pub MessageRefusalsNoted : Type 0
 MessageRefusalsNoted =
-    (time : ℕ) (role : Role) (wire kept : ℕ) (body : List ℕ) (why : Refusal) → readMessage role body ≡ received-as.Refused why
-    → IsNoted time role (frame wire kept body) why
+    (time : ℕ) (role : Role) (family : Family) (wire kept : ℕ) (body : List ℕ) (why : Refusal) → readMessage role family body ≡ received-as.Refused why
+    → IsNoted time role family (frame wire kept body) why
 
 -- "A capture is read as replies throughout."
 abbrev pub MessageRefusalsListed : Type 0
 MessageRefusalsListed =
-    (wire kept : ℕ) (body : List ℕ) (why : Refusal) → readMessage Reply body ≡ received-as.Refused why → IsListed (frame wire kept body) why
+    (family : Family) (wire kept : ℕ) (body : List ℕ) (why : Refusal) → readMessage Reply family body ≡ received-as.Refused why → IsListed family (frame wire kept body) why

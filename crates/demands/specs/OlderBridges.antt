@@ -13,6 +13,7 @@ use Rattle.frame.specs.Stuffing.{framed}
 use Rattle.frame.specs.Writing.{writtenFrame}
 use Rattle.line.specs.Listener.{frame, fresh, events}
 use Rattle.line.specs.Readers.{freshReader}
+use Rattle.weight.specs.declared.families.Family.the-variants.{Of000}
 use Rattle.weight.specs.declared.Value.the-variants.{Tenths}
 use Rattle.codes.specs.declared.table.Role.the-variants.{Reply}
 use Rattle.codes.specs.declared.table.Load.the-variants.{Net, Gross}
@@ -46,7 +47,7 @@ abbrev pub older : List Sent
 older =
     record { ahead = 1; body = fromA4; behind = 2 } ∷ record { ahead = 1; body = fromF0; behind = 2 } ∷ record { ahead = 1; body = fromFD; behind = 2 } ∷ []
 
--- one wire, what a fresh listener hears of it, and what it says
+-- one wire, what a fresh listener hears of it, and what it says, as a line of 000
 abbrev pub olderExample : Example
 olderExample = record {
   bytes =
@@ -55,9 +56,10 @@ olderExample = record {
       ∷ 0xFF ∷ 0xFD ∷ 0xA1 ∷ 0xFF ∷ 0xFE ∷ 0x00 ∷ 0x00 ∷ 0x02 ∷ 0xFF ∷ 0xFF ∷ [];
   heard = frame 10 7 fromA4 ∷ frame 20 7 fromF0 ∷ frame 30 6 fromFD ∷ [];
   role = Reply;
+  family = Of000;
   said =
-      received-as.Message (record { address = Short 0xA4; code = 0xC3; from = 2; to = 6; what = says.Weight e3 })
-      ∷ received-as.Message (record { address = Short 0xF0; code = 0xC2; from = 2; to = 6; what = says.Weight e4 })
+      received-as.Message (record { address = Short 0xA4; code = 0xC3; from = 2; to = 6; what = says.Weight (e3 Of000) })
+      ∷ received-as.Message (record { address = Short 0xF0; code = 0xC2; from = 2; to = 6; what = says.Weight (e4 Of000) })
       ∷ received-as.Message (record { address = Short 0xFD; code = 0xA1; from = 2; to = 5; what = says.Serial 255 }) ∷ [];
   values = Tenths (pos 251_000_000) ∷ Tenths (negsuc 4_999_999) ∷ [];
 }
@@ -80,8 +82,8 @@ pub record OlderBridges : Type 0 where
   pub written : flatten (map framed (bodiesOf (olderExample .heard))) ≡ olderExample .bytes
   pub by-writer : flatten (map writtenAgain (bodiesOf (olderExample .heard))) ≡ olderExample .bytes
   pub noted :
-      recordsHeard (λ (number : ℕ). number) Reply (olderExample .heard)
-      ≡ weighing 1 (Short 0xA4) Gross (e3 .bytes) ∷ weighing 2 (Short 0xF0) Net (e4 .bytes) ∷ []
+      recordsHeard (λ (number : ℕ). number) Reply Of000 (olderExample .heard)
+      ≡ weighing 1 (Short 0xA4) Gross (e3 Of000 .bytes) ∷ weighing 2 (Short 0xF0) Net (e4 Of000 .bytes) ∷ []
   pub listed :
-      map entryHeard (olderExample .heard)
-      ≡ entry-as.Weight Gross (Short 0xA4) (e3 .reading) ∷ entry-as.Weight Net (Short 0xF0) (e4 .reading) ∷ entry-as.Message (Short 0xFD) 0xA1 ∷ []
+      map (entryHeard Of000) (olderExample .heard)
+      ≡ entry-as.Weight Gross (Short 0xA4) (e3 Of000 .reading) ∷ entry-as.Weight Net (Short 0xF0) (e4 Of000 .reading) ∷ entry-as.Message (Short 0xFD) 0xA1 ∷ []

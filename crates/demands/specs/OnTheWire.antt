@@ -10,9 +10,11 @@ use Rattle.body.specs.declared.addresses.Address.{Address}
 use Rattle.body.specs.Body.{bodyOf}
 use Rattle.frame.specs.Stuffing.{framed}
 use Rattle.line.specs.Listener.{frame, fresh, hear, events, after}
+use Rattle.weight.specs.declared.families.Family.{Family}
 use Rattle.weight.specs.declared.FourBytes.{FourBytes}
 use Rattle.weight.specs.declared.Reading.{Reading}
 use Rattle.weight.specs.declared.Packed.the-variants as packed-as
+use Rattle.weight.specs.Families.{familyNumber}
 use Rattle.weight.specs.Bytes.{inOrder, packedOf}
 use Rattle.codes.specs.declared.table.Role.{Role}
 use Rattle.codes.specs.declared.table.Role.the-variants.{Reply}
@@ -53,24 +55,26 @@ pub record ReplyIn (bytes : List ℕ) (load : Load) (address : Address) (four : 
   pub stands : StandsIn bytes wire (bodyOf address (codeOf load) (inOrder four))
 
 -- no weighing in the log that a line makes, unless its reply stands in the bytes taken
-pub record WeighedIn (bytes : List ℕ) (role : Role) (item : Record) : Type 0 where
+pub record WeighedIn (bytes : List ℕ) (role : Role) (family : Family) (item : Record) : Type 0 where
   pub load : Load
   pub kind : item .kind ≡ kindOf load
   pub as-reply : role ≡ Reply
+  pub of-line : item .family ≡ familyNumber family
   pub reply : ReplyIn bytes load (addressOf item) (weightBytes item)
 
 abbrev pub LogOnTheWire : Type 0
 LogOnTheWire =
-    (bytes : List ℕ) → T (areBytes bytes) → (time : ℕ → ℕ) (role : Role) (item : Record)
-    → List·Memᴰ item (recordsHeard time role (events fresh bytes)) → (item .kind ≡ metKind → ⊥) → WeighedIn bytes role item
+    (bytes : List ℕ) → T (areBytes bytes) → (time : ℕ → ℕ) (role : Role) (family : Family) (item : Record)
+    → List·Memᴰ item (recordsHeard time role family (events fresh bytes)) → (item .kind ≡ metKind → ⊥) → WeighedIn bytes role family item
 
 -- and no weight in its listing
-pub record ListedIn (bytes : List ℕ) (load : Load) (address : Address) (reading : Reading) : Type 0 where
+pub record ListedIn (bytes : List ℕ) (family : Family) (load : Load) (address : Address) (reading : Reading) : Type 0 where
   pub four : FourBytes
   pub packed : packedOf reading ≡ packed-as.Bytes four
+  pub of-line : reading .family ≡ family
   pub reply : ReplyIn bytes load address four
 
 abbrev pub ListingOnTheWire : Type 0
 ListingOnTheWire =
-    (bytes : List ℕ) → T (areBytes bytes) → (load : Load) (address : Address) (reading : Reading)
-    → List·Memᴰ (Weight load address reading) (map entryHeard (events fresh bytes)) → ListedIn bytes load address reading
+    (bytes : List ℕ) → T (areBytes bytes) → (family : Family) (load : Load) (address : Address) (reading : Reading)
+    → List·Memᴰ (Weight load address reading) (map (entryHeard family) (events fresh bytes)) → ListedIn bytes family load address reading

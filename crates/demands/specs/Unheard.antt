@@ -12,11 +12,13 @@ use Rattle.body.specs.Body.{dataIn}
 use Rattle.refusal.specs.declared.Refusal.{Refusal}
 use Rattle.refusal.specs.declared.Refusal.the-variants.{FieldOutside}
 use Rattle.refusal.specs.Numbers.{numberOf}
+use Rattle.weight.specs.declared.families.Family.{Family}
 use Rattle.weight.specs.declared.FourBytes.{FourBytes}
 use Rattle.weight.specs.declared.Reading.{Reading}
 use Rattle.weight.specs.declared.Read.the-variants as read-as
 use Rattle.weight.specs.declared.Value.the-variants as value-as
 use Rattle.weight.specs.declared.Packed.the-variants as packed-as
+use Rattle.weight.specs.Families.{familyNumber}
 use Rattle.weight.specs.Bytes.{inOrder, readOf, packedOf}
 use Rattle.weight.specs.Tenths.{valueOf}
 use Rattle.kilograms.specs.declared.Kilograms.the-variants as kilograms-as
@@ -43,7 +45,9 @@ use Rattle.weighing_log.specs.Hearing.{notedHeard}
 use Rattle.crossing.specs.declared.events.QuayEvent.{QuayEvent}
 use Rattle.crossing.specs.declared.events.Given.the-variants as given-as
 use Rattle.crossing.specs.declared.roles.Asked.the-variants as asked-as
+use Rattle.crossing.specs.declared.families.Kin.the-variants as kin-as
 use Rattle.crossing.specs.Events.{eventFrom}
+use Rattle.crossing.specs.Families.{familyFrom}
 use Rattle.crossing.specs.Roles.{roleFrom}
 use Rattle.quay_weight.specs.Weights.{goodReading, noReading, readingOut, valueOut, valueRead, differenceRead, kilogramsOut, kilogramsRead}
 use Rattle.quay_message.specs.declared.messages.QuayWhat.{QuayWhat}
@@ -80,9 +84,9 @@ pub record WeightOf (mine : Reading) (weight : FourBytes) : Type 0 where
   pub less : (net : FourBytes) (other : Reading) (theirs : ℤ) → readOf net ≡ read-as.Good other → valueOf other ≡ value-as.Tenths theirs
       → valueOut (differenceRead (readOf weight) (readOf net)) ≡ record { value = tenths -ℤ theirs; refusal = 0 }
 
--- the four bytes of a record that crossed: W0 W1 W2, and its status for CON
+-- the four bytes of a record that crossed: W0 W1 W2, and its status for CON; and its family
 abbrev pub handedOn : QuayRecord → FourBytes
-handedOn out = record { w0 = out .w0; w1 = out .w1; w2 = out .w2; con = out .status }
+handedOn out = record { w0 = out .w0; w1 = out .w1; w2 = out .w2; con = out .status; family = out .family }
 
 -- 4 says that a message says a weight
 abbrev pub saysWeight : ℕ
@@ -106,14 +110,14 @@ pub record NeverAWeight : Type 0 where
   pub log-stepped : (log : List ℕ) (place : ℕ)
       → ((item : Record) (next : ℕ) → stepped log place ≡ stepped-as.Record item next → weighs item ≡ false)
       → HandsOnNoWeight (steppedOut place (stepped log place) .item)
-  pub event-recorded : (time number : ℕ) (event : QuayEvent) (body : List ℕ)
-      → ((role : Role) (given : Event) (item : Record) → roleFrom number ≡ asked-as.Role role → eventFrom event ≡ given-as.Event given
-      → notedHeard time role (heardAs given body) ≡ noted-as.Record item → weighs item ≡ false)
-      → HandsOnNoWeight (recordHeard time (roleFrom number) (eventFrom event) body)
-  pub message-read : (number : ℕ) (body : List ℕ)
-      → ((role : Role) (message : Message) → roleFrom number ≡ asked-as.Role role → readMessage role body ≡ received-as.Message message
-      → weightSaid (message .what) ≡ said-as.NoWeight)
-      → SaysNoWeight (messageIn (roleFrom number) body .what)
+  pub event-recorded : (time number kin : ℕ) (event : QuayEvent) (body : List ℕ)
+      → ((role : Role) (family : Family) (given : Event) (item : Record) → roleFrom number ≡ asked-as.Role role → familyFrom kin ≡ kin-as.Family family
+      → eventFrom event ≡ given-as.Event given → notedHeard time role family (heardAs given body) ≡ noted-as.Record item → weighs item ≡ false)
+      → HandsOnNoWeight (recordHeard time (roleFrom number) (familyFrom kin) (eventFrom event) body)
+  pub message-read : (number kin : ℕ) (body : List ℕ)
+      → ((role : Role) (family : Family) (message : Message) → roleFrom number ≡ asked-as.Role role → familyFrom kin ≡ kin-as.Family family
+      → readMessage role family body ≡ received-as.Message message → weightSaid (message .what) ≡ said-as.NoWeight)
+      → SaysNoWeight (messageIn (roleFrom number) (familyFrom kin) body .what)
 
 -- ---- the other half
 
@@ -130,11 +134,12 @@ pub record HandsOnItsWeight (item : Record) (out : QuayRecord) : Type 0 where
   pub bytes : handedOn out ≡ weightBytes item
   pub good : out .refusal ≡ 0
 
--- a message that says a weight crosses as one, with exactly the four bytes that were heard, and is not refused
-pub record SaysItsWeight (said : SaidWeight) (body : List ℕ) (out : QuayMessage) : Type 0 where
+-- a message that says a weight crosses as one, with exactly the four bytes that were heard and the family that was said, and is not refused
+pub record SaysItsWeight (family : Family) (said : SaidWeight) (body : List ℕ) (out : QuayMessage) : Type 0 where
   pub says : out .what .says ≡ saysWeight
   pub kind : out .what .load ≡ kindOf (said .load)
   pub bytes : inOrder (out .what .weight) ≡ dataIn body
+  pub of-line : out .what .weight .family ≡ familyNumber family
   pub weight : WeightOf (said .reading) (out .what .weight)
   pub good : out .refusal ≡ 0
 
@@ -144,9 +149,11 @@ pub record AlwaysItsWeight : Type 0 where
       → HandsOnItsWeight item (readOut (readRecord bytes))
   pub log-stepped : (log : List ℕ) (place next : ℕ) (item : Record) → stepped log place ≡ stepped-as.Record item next → weighs item ≡ true
       → HandsOnItsWeight item (steppedOut place (stepped log place) .item)
-  pub event-recorded : (time number : ℕ) (role : Role) (event : QuayEvent) (given : Event) (body : List ℕ) (item : Record)
-      → roleFrom number ≡ asked-as.Role role → eventFrom event ≡ given-as.Event given → notedHeard time role (heardAs given body) ≡ noted-as.Record item
-      → weighs item ≡ true → HandsOnItsWeight item (recordHeard time (roleFrom number) (eventFrom event) body)
-  pub message-read : (number : ℕ) (role : Role) (body : List ℕ) (message : Message) (said : SaidWeight) → T (areBytes body)
-      → roleFrom number ≡ asked-as.Role role → readMessage role body ≡ received-as.Message message → weightSaid (message .what) ≡ said-as.Weight said
-      → SaysItsWeight said body (messageIn (roleFrom number) body)
+  pub event-recorded : (time number kin : ℕ) (role : Role) (family : Family) (event : QuayEvent) (given : Event) (body : List ℕ) (item : Record)
+      → roleFrom number ≡ asked-as.Role role → familyFrom kin ≡ kin-as.Family family → eventFrom event ≡ given-as.Event given
+      → notedHeard time role family (heardAs given body) ≡ noted-as.Record item → weighs item ≡ true
+      → HandsOnItsWeight item (recordHeard time (roleFrom number) (familyFrom kin) (eventFrom event) body)
+  pub message-read : (number kin : ℕ) (role : Role) (family : Family) (body : List ℕ) (message : Message) (said : SaidWeight) → T (areBytes body)
+      → roleFrom number ≡ asked-as.Role role → familyFrom kin ≡ kin-as.Family family → readMessage role family body ≡ received-as.Message message
+      → weightSaid (message .what) ≡ said-as.Weight said
+      → SaysItsWeight family said body (messageIn (roleFrom number) (familyFrom kin) body)

@@ -12,9 +12,11 @@ use Rattle.body.specs.Body.{bodyOf}
 use Rattle.line.specs.declared.reading.Reader.{Reader}
 use Rattle.line.specs.Listener.{Heard, Listener, frame, hear, events}
 use Rattle.line.specs.Readers.{view}
+use Rattle.weight.specs.declared.families.Family.{Family}
 use Rattle.weight.specs.declared.FourBytes.{FourBytes}
 use Rattle.weight.specs.declared.Reading.{Reading}
 use Rattle.weight.specs.declared.Packed.the-variants as packed-as
+use Rattle.weight.specs.Families.{familyNumber}
 use Rattle.weight.specs.Bytes.{inOrder, packedOf}
 use Rattle.codes.specs.declared.table.Role.{Role}
 use Rattle.codes.specs.declared.table.Role.the-variants.{Reply}
@@ -43,19 +45,21 @@ pub record Among (heard : List Heard) (Such : Heard → Type 0) : Type 0 where
 
 -- ---- the log
 
--- the event that a weighing in the log was heard in: "Kind 1 is a gross reply, 2 a net reply: address as on the wire", "status is CON"
-pub record WeighingHeard (role : Role) (item : Record) (heard : Heard) : Type 0 where
+-- the event that a weighing in the log was heard in: "Kind 1 is a gross reply, 2 a net reply: address as on the wire", "status is CON",
+-- and the family is the line's
+pub record WeighingHeard (role : Role) (family : Family) (item : Record) (heard : Heard) : Type 0 where
   pub load : Load
   pub kind : item .kind ≡ kindOf load
   pub as-reply : role ≡ Reply
+  pub of-line : item .family ≡ familyNumber family
   pub reply : ReplyHeard heard load (addressOf item) (weightBytes item)
 
 -- each event: any record that it makes and that is no refusal's, at the time that was given
 abbrev pub NotedAsHeard : Type 0
 NotedAsHeard =
-    (reader : Reader) → T (areBytes (reader .body)) → (byte time : ℕ) (role : Role) (item : Record)
-    → notedHeard time role (hear (view reader) byte .event) ≡ noted-as.Record item → (item .kind ≡ metKind → ⊥)
-    → (item .time ≡ time) × WeighingHeard role item (hear (view reader) byte .event)
+    (reader : Reader) → T (areBytes (reader .body)) → (byte time : ℕ) (role : Role) (family : Family) (item : Record)
+    → notedHeard time role family (hear (view reader) byte .event) ≡ noted-as.Record item → (item .kind ≡ metKind → ⊥)
+    → (item .time ≡ time) × WeighingHeard role family item (hear (view reader) byte .event)
 
 -- a record, where there is one, ahead of those behind it
 abbrev pub noteThen : Noted → List Record → List Record
@@ -64,45 +68,46 @@ noteThen (noted-as.Record item) later = item ∷ later
 noteThen (noted-as.Refused why) later = later
 
 -- the records that a line's events make, in order; the caller gives a time for the number of each event, from 1
-unfoldable pub recordsFrom : (ℕ → ℕ) → Role → ℕ → List Heard → List Record
-recordsFrom time role number [] = []
-recordsFrom time role number (heard ∷ later) = noteThen (notedHeard (time number) role heard) (recordsFrom time role (number + 1) later)
+unfoldable pub recordsFrom : (ℕ → ℕ) → Role → Family → ℕ → List Heard → List Record
+recordsFrom time role family number [] = []
+recordsFrom time role family number (heard ∷ later) = noteThen (notedHeard (time number) role family heard) (recordsFrom time role family (number + 1) later)
 
-abbrev pub recordsHeard : (ℕ → ℕ) → Role → List Heard → List Record
-recordsHeard time role heard = recordsFrom time role 1 heard
+abbrev pub recordsHeard : (ℕ → ℕ) → Role → Family → List Heard → List Record
+recordsHeard time role family heard = recordsFrom time role family 1 heard
 
 -- the whole log that a line makes
 abbrev pub LogAsHeard : Type 0
 LogAsHeard =
-    (reader : Reader) → T (areBytes (reader .body)) → (bytes : List ℕ) → T (areBytes bytes) → (time : ℕ → ℕ) (role : Role) (item : Record)
-    → List·Memᴰ item (recordsHeard time role (events (view reader) bytes)) → (item .kind ≡ metKind → ⊥)
-    → Among (events (view reader) bytes) (WeighingHeard role item)
+    (reader : Reader) → T (areBytes (reader .body)) → (bytes : List ℕ) → T (areBytes bytes) → (time : ℕ → ℕ) (role : Role) (family : Family) (item : Record)
+    → List·Memᴰ item (recordsHeard time role family (events (view reader) bytes)) → (item .kind ≡ metKind → ⊥)
+    → Among (events (view reader) bytes) (WeighingHeard role family item)
 
 -- ---- the listing
 
--- the event that a weight in the listing was heard in: the reading's four bytes
-pub record ListedHeard (load : Load) (address : Address) (reading : Reading) (heard : Heard) : Type 0 where
+-- the event that a weight in the listing was heard in: the reading's four bytes, and the family of the line
+pub record ListedHeard (family : Family) (load : Load) (address : Address) (reading : Reading) (heard : Heard) : Type 0 where
   pub four : FourBytes
   pub packed : packedOf reading ≡ packed-as.Bytes four
+  pub of-line : reading .family ≡ family
   pub reply : ReplyHeard heard load address four
 
 -- each event
 abbrev pub ListedAsHeard : Type 0
 ListedAsHeard =
-    (reader : Reader) → T (areBytes (reader .body)) → (byte : ℕ) (load : Load) (address : Address) (reading : Reading)
-    → entryHeard (hear (view reader) byte .event) ≡ Weight load address reading → ListedHeard load address reading (hear (view reader) byte .event)
+    (reader : Reader) → T (areBytes (reader .body)) → (byte : ℕ) (family : Family) (load : Load) (address : Address) (reading : Reading)
+    → entryHeard family (hear (view reader) byte .event) ≡ Weight load address reading → ListedHeard family load address reading (hear (view reader) byte .event)
 
 -- the whole listing of what a line hears: the entries that have a line in it
 abbrev pub ListingAsHeard : Type 0
 ListingAsHeard =
-    (reader : Reader) → T (areBytes (reader .body)) → (bytes : List ℕ) → T (areBytes bytes) → (load : Load) (address : Address) (reading : Reading)
-    → List·Memᴰ (Weight load address reading) (map entryHeard (events (view reader) bytes))
-    → Among (events (view reader) bytes) (ListedHeard load address reading)
+    (reader : Reader) → T (areBytes (reader .body)) → (bytes : List ℕ) → T (areBytes bytes) → (family : Family) (load : Load) (address : Address) (reading : Reading)
+    → List·Memᴰ (Weight load address reading) (map (entryHeard family) (events (view reader) bytes))
+    → Among (events (view reader) bytes) (ListedHeard family load address reading)
 
 -- the program makes each body's check once, at its end, and lists without making it again: its entries, and their lines, are the paper's
-pub record ListsTheSame (heard : List Heard) : Type 0 where
-  pub entries : map (entryIf true) heard ≡ map entryHeard heard
-  pub lines : listed (map (entryIf true) heard) ≡ listing heard
+pub record ListsTheSame (family : Family) (heard : List Heard) : Type 0 where
+  pub entries : map (entryIf true family) heard ≡ map (entryHeard family) heard
+  pub lines : listed (map (entryIf true family) heard) ≡ listing family heard
 
 abbrev pub CheckedOnce : Type 0
-CheckedOnce = (listener : Listener) (bytes : List ℕ) → ListsTheSame (events listener bytes)
+CheckedOnce = (family : Family) (listener : Listener) (bytes : List ℕ) → ListsTheSame family (events listener bytes)

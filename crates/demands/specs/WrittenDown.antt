@@ -10,6 +10,7 @@ use Rattle.refusal.specs.Numbers.{numberOf, lineStatus}
 use Rattle.room.specs.Writing.{written}
 use Rattle.body.specs.Addresses.{legal}
 use Rattle.line.specs.Listener.{Heard, Listener, hear}
+use Rattle.weight.specs.declared.families.Family.{Family}
 use Rattle.weight.specs.Bytes.{inRange}
 use Rattle.codes.specs.declared.table.Role.{Role}
 use Rattle.records.specs.declared.records.Record.{Record}
@@ -23,22 +24,22 @@ use Rattle.entries.specs.Entries.{entryHeard}
 use Rattle.listing.specs.Lines.{lineOf}
 use Rattle.listing.specs.Writing.{writtenLine}
 
--- a legal address, a reading within its ranges, a refusal of 1 to 8
+-- a legal address, a reading within its ranges (and with bit 6 as its family allows), a refusal of 1 to 8
 abbrev pub Sound : Entry → Type 0
 Sound Nothing = Unit {0}
 Sound (Weight load address reading) = (legal address ≡ true) × (inRange reading ≡ true)
 Sound (Message address code) = legal address ≡ true
 Sound (Refused why) = lineStatus (numberOf why) ≡ true
 
-pub record CanBeWritten (heard : Heard) : Type 0 where
-  pub sound : Sound (entryHeard heard)
+pub record CanBeWritten (family : Family) (heard : Heard) : Type 0 where
+  pub sound : Sound (entryHeard family heard)
   -- its line is judged by the room alone: 9
-  pub line : (number : ℕ) (room : List ℕ) → writtenLine number (entryHeard heard) room ≡ written (lineOf number (entryHeard heard)) room
+  pub line : (number : ℕ) (room : List ℕ) → writtenLine number (entryHeard family heard) room ≡ written (lineOf number (entryHeard family heard)) room
   -- noting it is never refused
-  pub noted : (time : ℕ) (role : Role) (why : Refusal) → notedHeard time role heard ≡ noted-as.Refused why → ⊥
+  pub noted : (time : ℕ) (role : Role) (why : Refusal) → notedHeard time role family heard ≡ noted-as.Refused why → ⊥
   -- its record is judged by the room alone too
-  pub item : (time : ℕ) (role : Role) (item : Record) (room : List ℕ) → notedHeard time role heard ≡ noted-as.Record item
+  pub item : (time : ℕ) (role : Role) (item : Record) (room : List ℕ) → notedHeard time role family heard ≡ noted-as.Record item
       → writtenRecord item room ≡ written (bytesOfRecord item) room
 
 abbrev pub AlwaysWritten : Type 0
-AlwaysWritten = (listener : Listener) (byte : ℕ) → CanBeWritten (hear listener byte .event)
+AlwaysWritten = (family : Family) (listener : Listener) (byte : ℕ) → CanBeWritten family (hear listener byte .event)

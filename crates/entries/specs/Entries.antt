@@ -5,6 +5,7 @@ use mathlib.Core.List.{List}
 use Rattle.refusal.specs.Numbers.{numberOf, lineStatus}
 use Rattle.body.specs.declared.addresses.Address.{Address}
 use Rattle.line.specs.Listener.{Heard, nothing, frame, refused}
+use Rattle.weight.specs.declared.families.Family.{Family}
 use Rattle.weight.specs.Bytes.{inRange}
 use Rattle.codes.specs.declared.table.Role.the-variants.{Reply}
 use Rattle.meaning.specs.declared.meaning.WeightOrNot.{WeightOrNot}
@@ -32,16 +33,16 @@ entryBy reads nothing = Nothing
 entryBy reads (frame wire kept body) = entryOf (reads body)
 entryBy reads (refused why wire kept) = Refused why
 
--- a frame's body is read as a reply
-unfoldable pub entryHeard : Heard → Entry
-entryHeard = entryBy (readMessage Reply)
+-- a frame's body is read as a reply, by the family of the line
+unfoldable pub entryHeard : Family → Heard → Entry
+entryHeard family = entryBy (readMessage Reply family)
 
 -- the same; an argument says whether the check is right. A line hands out a body only if it is, so for such a body the two are one (`handed-out`)
-unfoldable pub entryIf : Bool → Heard → Entry
-entryIf right = entryBy (readIf right Reply)
+unfoldable pub entryIf : Bool → Family → Heard → Entry
+entryIf right family = entryBy (readIf right Reply family)
 
 -- what may be listed; anything else is 8: "A reading handed in with a number above 999,999 or a point above 7 is refusal 8 wherever it is
--- used", and "refusals 1 to 8 all as the third line", since no other is heard on a line
+-- used", 02's "8 also for family 002 with bit 6 set", and "refusals 1 to 8 all as the third line", since no other is heard on a line
 abbrev pub sound : Entry → Bool
 sound Nothing = true
 sound (Weight load address reading) = inRange reading

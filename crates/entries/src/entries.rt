@@ -10,6 +10,7 @@ use message::read;
 use message::read_without_check;
 use refusal::Refusal;
 use room::front;
+use weight::Family;
 use weight::Reading;
 ghost use mathlib.Core.Path.{_≡_};
 ghost use Rattle.line.specs.Readers.{heardAs};
@@ -52,16 +53,17 @@ pub fn entry_of(received: Received) -> Entry
 }
 
 // An event as it is to be listed. An argument tells whether the check of its body is right. A line hands out no body with a wrong check, so
-// a listing need not test it again. The body of a frame stands at the front of `body`, as the reader leaves it, and is read as a reply. For any
+// a listing need not test it again. The body of a frame stands at the front of `body`, as the reader leaves it, and is read as a reply, by the family of the line. For any
 // other event `body` is not looked at.
-pub fn heard_without_check(right: bool, event: Event, body: &[u8]) -> Entry
-    ensures { λ r. ⌜ r ≡ entryIf right (heardAs event (now (body .entry))) ⌝ }
+pub fn heard_without_check(family: Family, right: bool, event: Event, body: &[u8]) -> Entry
+    ensures { λ r. ⌜ r ≡ entryIf right family (heardAs event (now (body .entry))) ⌝ }
 {
     match event {
         Event::Nothing => Entry::Nothing,
         Event::Refused(why, _, _) => Entry::Refused(why),
         Event::Frame(_, place) => entry_of(read_without_check(
             Role::Reply,
+            family,
             right,
             front(body, place.0),
         )),
@@ -69,11 +71,11 @@ pub fn heard_without_check(right: bool, event: Event, body: &[u8]) -> Entry
 }
 
 // An event as it is to be listed. Its body is judged again, check and all.
-pub fn heard(event: Event, body: &[u8]) -> Entry
-    ensures { λ r. ⌜ r ≡ entryHeard (heardAs event (now (body .entry))) ⌝ }
+pub fn heard(family: Family, event: Event, body: &[u8]) -> Entry
+    ensures { λ r. ⌜ r ≡ entryHeard family (heardAs event (now (body .entry))) ⌝ }
 {
     match event {
-        Event::Frame(_, place) => entry_of(read(Role::Reply, front(body, place.0))),
-        _ => heard_without_check(true, event, body),
+        Event::Frame(_, place) => entry_of(read(Role::Reply, family, front(body, place.0))),
+        _ => heard_without_check(family, true, event, body),
     }
 }

@@ -13,6 +13,7 @@ use listing::write_total;
 use refusal::Verdict;
 use room::Written;
 use std::num::wrapping_add_u64;
+use weight::Family;
 
 // No line of a listing is longer (law `total-length` of `listing`).
 const LONGEST_LINE: usize = 85;
@@ -74,8 +75,8 @@ fn tell(number: u64, entry: Entry, page: Page, room: &mut [u8]) -> Page {
     told(written, text, page, room)
 }
 
-// Takes a block to its end, event by event. The reader is taken apart once.
-pub(crate) fn list_block(tally: Tally, block: &[u8], room: &mut [u8]) -> Tally {
+// Takes a block of a line of a family to its end, event by event. The reader is taken apart once.
+pub(crate) fn list_block(family: Family, tally: Tally, block: &[u8], room: &mut [u8]) -> Tally {
     let mut reader = tally.reader;
     let mut place = reader.place;
     let mut page = tally.page;
@@ -91,7 +92,7 @@ pub(crate) fn list_block(tally: Tally, block: &[u8], room: &mut [u8]) -> Tally {
         place = next;
         at += went.used;
         let event = went.event;
-        let entry = heard_without_check(true, event, &reader.body);
+        let entry = heard_without_check(family, true, event, &reader.body);
         counts = counted(counts, entry);
         page = tell(counts.lines, entry, page, room);
     }

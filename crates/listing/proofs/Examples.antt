@@ -2,18 +2,21 @@
 -- Why: both sides of each equation compute to the same bytes.
 use Prim.Native.Nat.{ℕ}
 use mathlib.Core.Path.{_≡_, refl}
-use mathlib.Core.Bool.{true, false}
+use mathlib.Core.Bool.{Bool, true, false}
 use mathlib.Core.List.{List, [], _∷_, map}
 use Rattle.refusal.specs.declared.Refusal.the-variants.{BodyShort, RecordBroken}
 use Rattle.check_byte.specs.Register.{received, feedAll, feedByte, feedBits, shiftIn}
-use Rattle.weight.specs.Bytes.{fourIn, readOf}
+use Rattle.weight.specs.declared.families.Family.{Family}
+use Rattle.weight.specs.declared.families.Family.the-variants.{Plain, Of000, Of001, Of002}
+use Rattle.weight.specs.Families.{namedIn, familyNamed}
+use Rattle.weight.specs.Bytes.{fourIn, readAs, readOf}
 use Rattle.weight.specs.declared.Reading.{Reading}
 use Rattle.low_first.specs.LowFirst.{lowFirst}
 use Rattle.body.specs.declared.addresses.Address.the-variants.{Short, Serial}
 use Rattle.body.specs.Addresses.{legal, addressIn, addressLength}
 use Rattle.body.specs.Body.{short, judged, judgedLent, codeIn, dataIn}
 use Rattle.line.specs.Listener.{fresh, events, heardThen, hear, hearIn, keep, ended, tick}
-use Rattle.codes.specs.declared.table.Load.the-variants.{Net}
+use Rattle.codes.specs.declared.table.Load.the-variants.{Net, Gross}
 use Rattle.codes.specs.Table.{lineIn, lineOf as rowsOf, rowOf}
 use Rattle.meaning.specs.Judging.{judgedCode, judgedData, judgedMessage}
 use Rattle.message.specs.Reading.{messageOf, readMessage, readIf}
@@ -31,16 +34,17 @@ capture =
     ∷ 0xFF ∷ 0x01 ∷ 0xC2 ∷ 0x05 ∷ 0x00 ∷ 0x00 ∷ 0x91 ∷ 0x32 ∷ 0xFF ∷ 0xFF
     ∷ 0xFF ∷ 0x01 ∷ 0xC3 ∷ 0xE2 ∷ 0xFF ∷ 0xFF ∷ []
 
+-- as a line of 002: both weight lines end in `gross`, since bit 5 is 0 in both
 pub four-lines :
-    listing (events fresh capture)
-    ≡ spelt "1 weight gross 1 + 000251 1 0 0\n2 weight net 1 - 000005 1 1 0\n3 refused 4\ntotal 3 weights 2 refused 1\n"
-unfolding listing entryHeard decimal decimalIn events heardThen hear hearIn keep ended tick readMessage readIf messageOf judgedMessage judgedCode judgedData rowOf rowsOf lineIn fourIn readOf judgedLent judged short received feedAll feedByte feedBits shiftIn legal addressIn lowFirst addressLength codeIn dataIn
+    listing Of002 (events fresh capture)
+    ≡ spelt "1 weight gross 1 + 000251 1 0 0 gross\n2 weight net 1 - 000005 1 1 0 gross\n3 refused 4\ntotal 3 weights 2 refused 1\n"
+unfolding listing entryHeard decimal decimalIn events heardThen hear hearIn keep ended tick readMessage readIf messageOf judgedMessage judgedCode judgedData rowOf rowsOf lineIn fourIn readOf readAs familyNamed namedIn judgedLent judged short received feedAll feedByte feedBits shiftIn legal addressIn lowFirst addressLength codeIn dataIn
 four-lines = refl
 
 -- a silent capture
-pub silence : listing [] ≡ spelt "total 0 weights 0 refused 0\n"
+pub silence : (family : Family) → listing family [] ≡ spelt "total 0 weights 0 refused 0\n"
 unfolding listing decimal decimalIn
-silence = refl
+silence family = refl
 
 -- ---- lines, each of an entry with its number
 
@@ -53,12 +57,18 @@ abbrev lists-as : ℕ → Entry → List ℕ → Listed
 lists-as number entry line = record { number = number; entry = entry; line = line }
 
 -- minus zero keeps its sign; an overload keeps its digits
-abbrev overloaded : Reading
-overloaded = record { minus = true; number = 0; point = 7; bit6 = true; bit5 = true; settled = false; overload = true }
+abbrev overloaded : Family → Bool → Reading
+overloaded family bit5 = record { minus = true; number = 0; point = 7; bit6 = true; bit5 = bit5; settled = false; overload = true; family = family }
 
 abbrev pub lines : List Listed
 lines =
-    lists-as 18_446_744_073_709_551_615 (Weight Net (Serial 16_777_215) overloaded) (spelt "18446744073709551615 weight net 0:16777215 - 000000 7 0 1\n")
+    lists-as 18_446_744_073_709_551_615 (Weight Net (Serial 16_777_215) (overloaded Plain true)) (spelt "18446744073709551615 weight net 0:16777215 - 000000 7 0 1\n")
+    -- the last field is that of bit 5, by the family
+    ∷ lists-as 1 (Weight Net (Short 1) (overloaded Of000 true)) (spelt "1 weight net 1 - 000000 7 0 1 net\n")
+    ∷ lists-as 2 (Weight Net (Short 1) (overloaded Of000 false)) (spelt "2 weight net 1 - 000000 7 0 1 gross\n")
+    ∷ lists-as 3 (Weight Gross (Short 1) (overloaded Of001 true)) (spelt "3 weight gross 1 - 000000 7 0 1 scale1\n")
+    ∷ lists-as 4 (Weight Gross (Short 1) (overloaded Of001 false)) (spelt "4 weight gross 1 - 000000 7 0 1 scale0\n")
+    ∷ lists-as 5 (Weight Gross (Short 1) (overloaded Of002 true)) (spelt "5 weight gross 1 - 000000 7 0 1 net\n")
     ∷ lists-as 10 (Message (Serial 0) 0xA1) (spelt "10 message 0:0 A1\n")
     ∷ lists-as 100 (Message (Short 253) 0x0F) (spelt "100 message 253 0F\n")
     ∷ lists-as 9 (Refused BodyShort) (spelt "9 refused 1\n")

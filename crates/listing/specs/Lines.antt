@@ -1,11 +1,13 @@
 -- 01, "Judged examples": the lines of a listing, "(event; address, or `0:` and the serial, in decimal; sign bit as + or -; digits; point;
--- settled; overload)"; "Other messages list as `N message ADDRESS CODE`, the code in two capital hex digits; refusals 1 to 8 all as the third line."
+-- settled; overload)"; 02, request 4: "The listing adds one field at the end of a weight line"; "Other messages list as `N message ADDRESS CODE`, the code in two capital hex digits; refusals 1 to 8 all as the third line."
 use Prim.Native.Nat.{ℕ}
+use mathlib.Core.Bool.{Bool, true, false}
 use mathlib.Core.List.{List, [], _∷_, _++_}
 use Rattle.refusal.specs.Numbers.{numberOf}
 use Rattle.codes.specs.declared.table.Load.{Load}
 use Rattle.codes.specs.declared.table.Load.the-variants.{Net, Gross}
 use Rattle.weight.specs.declared.Reading.{Reading}
+use Rattle.weight.specs.Families.{Called, plainBit, keyCode, netMode, event, scaleNumber, reserved, terminal}
 use Rattle.entries.specs.declared.entries.Entry.{Entry}
 use Rattle.entries.specs.declared.entries.Entry.the-variants.{Nothing, Weight, Message, Refused}
 use Rattle.listing.specs.Texts.{spelt, decimal, sixDigits, oneDigit, hexByte, addressText, signByte, markByte}
@@ -22,9 +24,23 @@ abbrev pub loadText : Load → List ℕ
 loadText Net = spelt "net"
 loadText Gross = spelt "gross"
 
--- the fields of a reading: sign, digits, and then point, settled, overload
+-- "`net`, `gross`, or `scale0`, `scale1`": what bit 5 says, by what the family calls it; no field where it has no such name
+abbrev pub fifthFields : Called → Bool → List (List ℕ)
+fifthFields netMode true = spelt "net" ∷ []
+fifthFields netMode false = spelt "gross" ∷ []
+fifthFields scaleNumber true = spelt "scale1" ∷ []
+fifthFields scaleNumber false = spelt "scale0" ∷ []
+fifthFields plainBit set = []
+fifthFields keyCode set = []
+fifthFields event set = []
+fifthFields reserved set = []
+
+abbrev pub modeFields : Reading → List (List ℕ)
+modeFields reading = fifthFields (terminal (reading .family) .fifth) (reading .bit5)
+
+-- the fields of a reading: sign, digits, and then point, settled, overload, and the mode
 abbrev pub markFields : Reading → List (List ℕ)
-markFields reading = oneDigit (reading .point) ∷ (markByte (reading .settled) ∷ []) ∷ (markByte (reading .overload) ∷ []) ∷ []
+markFields reading = oneDigit (reading .point) ∷ (markByte (reading .settled) ∷ []) ∷ (markByte (reading .overload) ∷ []) ∷ modeFields reading
 
 abbrev pub readingFields : Reading → List (List ℕ)
 readingFields reading = (signByte (reading .minus) ∷ []) ∷ sixDigits (reading .number) ∷ markFields reading

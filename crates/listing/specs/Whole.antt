@@ -3,6 +3,7 @@ use Prim.Native.Nat.{ℕ, _+_}
 use mathlib.Core.List.{List, [], _∷_, _++_, map}
 use lib.ListN.{length}
 use Rattle.line.specs.Listener.{Heard}
+use Rattle.weight.specs.declared.families.Family.{Family}
 use Rattle.entries.specs.declared.entries.Entry.{Entry}
 use Rattle.entries.specs.declared.entries.Entry.the-variants.{Nothing, Weight, Message, Refused}
 use Rattle.entries.specs.Entries.{entryHeard}
@@ -33,6 +34,6 @@ linesFrom number (entry ∷ more) = lineOf number entry ++ linesFrom (number + 1
 abbrev pub listed : List Entry → List ℕ
 listed entries = linesFrom 1 entries ++ totalOf (length entries) (count weightIn entries) (count refusedIn entries)
 
--- the listing of what was heard on a line; no event of a line is `nothing`
-unfoldable pub listing : List Heard → List ℕ
-listing heard = listed (map entryHeard heard)
+-- the listing of what was heard on a line of a family; no event of a line is `nothing`
+unfoldable pub listing : Family → List Heard → List ℕ
+listing family heard = listed (map (entryHeard family) heard)

@@ -3,13 +3,15 @@
 use body::Address;
 use codes::Load;
 use room::lay;
+use weight::Family;
 use weight::Reading;
 ghost use mathlib.Core.Path.{_≡_};
 ghost use mathlib.Core.List.{[], _∷_, _++_};
 ghost use Prim.Native.Nat.{_+_, _≤_, _<_};
 ghost use lib.ListN.{length};
 ghost use Rattle.listing.specs.Texts.{spelt, digit, decimal, sixDigits, hexByte, addressText, signByte, markByte};
-ghost use Rattle.listing.specs.Lines.{rest, loadText, markFields, readingFields};
+ghost use Rattle.listing.specs.Lines.{rest, loadText, fifthFields, modeFields, markFields, readingFields};
+ghost use Rattle.weight.specs.Families.{netMode, scaleNumber};
 ghost use Rattle.listing.specs.Writing.{Ahead};
 
 // The byte of a digit: 0 to 9, and then the capital letters A to F.
@@ -93,16 +95,55 @@ pub(crate) fn put_load(load: Load, text: &mut [u8], at: usize) -> usize
     }
 }
 
-// Point, settled, overload, and the end of the line.
-fn put_marks(reading: Reading, text: &mut [u8], at: usize) -> usize
-    requires { ⌜ (7 ≤ at) × (at ≤ length (now text)) ⌝ }
-    ensures { λ r. ⌜ Ahead (rest (markFields reading)) at (now (text .entry)) r (now (text .exit)) ⌝ }
+// Net mode or not, and the end of the line.
+fn put_net_mode(set: bool, text: &mut [u8], at: usize) -> usize
+    requires { ⌜ (8 ≤ at) × (at ≤ length (now text)) ⌝ }
+    ensures { λ r. ⌜ Ahead (rest (fifthFields netMode set)) at (now (text .entry)) r (now (text .exit)) × (at ≤ r + 8) ⌝ }
 {
+    if set {
+        put(b" net\n", text, at)
+    } else {
+        put(b" gross\n", text, at)
+    }
+}
+
+// The current scale number, and the end of the line.
+fn put_scale_number(set: bool, text: &mut [u8], at: usize) -> usize
+    requires { ⌜ (8 ≤ at) × (at ≤ length (now text)) ⌝ }
+    ensures { λ r. ⌜ Ahead (rest (fifthFields scaleNumber set)) at (now (text .entry)) r (now (text .exit)) × (at ≤ r + 8) ⌝ }
+{
+    if set {
+        put(b" scale1\n", text, at)
+    } else {
+        put(b" scale0\n", text, at)
+    }
+}
+
+// What bit 5 says by the family, and the end of the line. A plain reading has no such field.
+fn put_mode(reading: Reading, text: &mut [u8], at: usize) -> usize
+    requires { ⌜ (8 ≤ at) × (at ≤ length (now text)) ⌝ }
+    ensures { λ r. ⌜ Ahead (rest (modeFields reading)) at (now (text .entry)) r (now (text .exit)) × (at ≤ r + 8) ⌝ }
+{
+    let family = reading.family;
+    match family {
+        Family::Plain => put(b"\n", text, at),
+        Family::Of000 => put_net_mode(reading.bit5, text, at),
+        Family::Of001 => put_scale_number(reading.bit5, text, at),
+        Family::Of002 => put_net_mode(reading.bit5, text, at),
+    }
+}
+
+// Point, settled, overload, the mode, and the end of the line.
+fn put_marks(reading: Reading, text: &mut [u8], at: usize) -> usize
+    requires { ⌜ (14 ≤ at) × (at ≤ length (now text)) ⌝ }
+    ensures { λ r. ⌜ Ahead (rest (markFields reading)) at (now (text .entry)) r (now (text .exit)) × (at ≤ r + 14) ⌝ }
+{
+    let behind = put_mode(reading, text, at);
     let point = digit(reading.point as u64 % 10);
     let settled = mark_byte(reading.settled);
     let overload = mark_byte(reading.overload);
-    let piece = [b' ', point, b' ', settled, b' ', overload, b'\n'];
-    put(&piece, text, at)
+    let piece = [b' ', point, b' ', settled, b' ', overload];
+    put(&piece, text, behind)
 }
 
 // The sign and six digits.
@@ -129,8 +170,8 @@ fn put_digits(minus: bool, number: u32, text: &mut [u8], at: usize) -> usize
 
 // A reading, and the end of the line.
 pub(crate) fn put_reading(reading: Reading, text: &mut [u8], at: usize) -> usize
-    requires { ⌜ (16 ≤ at) × (at ≤ length (now text)) ⌝ }
-    ensures { λ r. ⌜ Ahead (rest (readingFields reading)) at (now (text .entry)) r (now (text .exit)) ⌝ }
+    requires { ⌜ (23 ≤ at) × (at ≤ length (now text)) ⌝ }
+    ensures { λ r. ⌜ Ahead (rest (readingFields reading)) at (now (text .entry)) r (now (text .exit)) × (at ≤ r + 23) ⌝ }
 {
     let behind = put_marks(reading, text, at);
     put_digits(reading.minus, reading.number, text, behind)

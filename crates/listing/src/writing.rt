@@ -23,7 +23,7 @@ ghost use Rattle.entries.specs.Entries.{sound};
 ghost use Rattle.listing.specs.Lines.{lineOf, totalOf};
 ghost use Rattle.listing.specs.Writing.{Ahead, writtenLine, writtenTotal};
 
-// The longest line: a total of three numbers of 20 digits. A weight line has at most 62 bytes.
+// The longest line: a total of three numbers of 20 digits. A weight line has at most 69 bytes.
 const LONGEST_LINE: usize = 85;
 
 fn put_weight(number: u64, load: Load, address: Address, reading: Reading, text: &mut [u8]) -> usize
@@ -79,7 +79,7 @@ fn put_total(total: u64, weights: u64, refused: u64, text: &mut [u8]) -> usize
     put_counted(b"total ", total, text, behind_total)
 }
 
-// 8 is given for a reading whose number or point is out of its range, and for a refusal that no line can meet.
+// 8 is given for a reading whose number or point is out of its range or whose family reserves a bit that is set, and for a refusal that no line can meet.
 fn is_sound(entry: Entry) -> bool
     ensures { λ r. ⌜ r ≡ sound entry ⌝ }
 {

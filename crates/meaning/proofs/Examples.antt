@@ -1,4 +1,4 @@
--- Shown: what code and data of the paper's table say to a short address, and which are refused: each rule that can be read in two ways.
+-- Shown: what code and data of the paper's table say to a short address on a line of 002, and which are refused: each rule that can be read in two ways.
 -- Why: both columns of the table compute to the same.
 use Prim.Native.Nat.{ℕ}
 use mathlib.Core.Path.{_≡_, refl}
@@ -6,7 +6,9 @@ use mathlib.Core.List.{List, [], _∷_, map}
 use Rattle.refusal.specs.declared.Refusal.the-variants.{CodeUnknown, LengthWrong, FieldOutside}
 use Rattle.body.specs.declared.addresses.Address.the-variants.{Short}
 use Rattle.body.specs.Addresses.{addressLength}
-use Rattle.weight.specs.Bytes.{fourIn, readOf}
+use Rattle.weight.specs.declared.families.Family.the-variants.{Of002}
+use Rattle.weight.specs.Families.{namedIn, familyNamed}
+use Rattle.weight.specs.Bytes.{fourIn, readAs, readOf}
 use Rattle.weight.proofs.Examples.{e3-bytes, e3-reading}
 use Rattle.codes.specs.declared.table.Load.the-variants.{Gross}
 use Rattle.inputs.specs.On.{inputsOn, sumOfBits}
@@ -47,6 +49,8 @@ cases =
     ∷ tells Reply 0xC3 (0x51 ∷ 0x02 ∷ 0x00 ∷ 0x01 ∷ []) (What (says.Weight e3-said))
     -- a half above 9
     ∷ tells Reply 0xC2 (0x0A ∷ 0x00 ∷ 0x00 ∷ 0x00 ∷ []) (Refused FieldOutside)
+    -- bit 6 is reserved, bit 5 is not
+    ∷ tells Reply 0xC3 (0x51 ∷ 0x02 ∷ 0x00 ∷ 0x41 ∷ []) (Refused FieldOutside)
     ∷ tells Reply 0xC4 (0x01 ∷ 0x00 ∷ 0xFF ∷ 0x80 ∷ []) (What (says.Inputs 0x80FF0001 10))
     -- NUM 1F, 20 or 21, in both roles; a request has one byte
     ∷ tells Request 0xC6 (0x21 ∷ []) (What (says.Number 0x21))
@@ -66,6 +70,6 @@ cases =
     ∷ tells Request 0xD2 (0x03 ∷ []) (Refused LengthWrong)
     ∷ []
 
-pub cases-told : map (λ (case : Case). told (case .role) (Short 1) (case .code) (case .data′)) cases ≡ map (λ (case : Case). case .answer) cases
-unfolding addressLength told judgedMessage judgedCode judgedData rowOf lineOf lineIn fourIn readOf lowFirst onIn inputsOn sumOfBits
+pub cases-told : map (λ (case : Case). told (case .role) Of002 (Short 1) (case .code) (case .data′)) cases ≡ map (λ (case : Case). case .answer) cases
+unfolding addressLength told judgedMessage judgedCode judgedData rowOf lineOf lineIn fourIn readOf readAs familyNamed namedIn lowFirst onIn inputsOn sumOfBits
 cases-told = refl

@@ -5,6 +5,7 @@ use mathlib.Core.Path.{_≡_, refl, ap}
 use mathlib.Core.List.{List, [], _∷_}
 use types.Run.{OneOf, miss}
 use denote.Enum.Declared.{tagOf}
+use Rattle.weight.specs.declared.families.Family.{Family}
 use Rattle.weight.specs.declared.Read.{Read}
 use Rattle.weight.specs.declared.Read.the-variants as read-as
 use Rattle.weight.specs.Bytes.{fourIn, readOf}
@@ -52,32 +53,32 @@ says-that (says.Error error) said e = cc
 
 -- ---- a row whose data say a weight is that weight's; the bytes are the data's, and the reading is that of the bytes
 
-pub record Carried (row : Row) (data′ : List ℕ) (said : SaidWeight) : Type 0 where
+pub record Carried (family : Family) (row : Row) (data′ : List ℕ) (said : SaidWeight) : Type 0 where
   pub row-is : row ≡ Weight (said .load)
-  pub bytes-are : fourIn data′ ≡ said .bytes
+  pub bytes-are : fourIn family data′ ≡ said .bytes
   pub reads : readOf (said .bytes) ≡ read-as.Good (said .reading)
 
-carried-read : (load : Load) (data′ : List ℕ) (read : Read) (said : SaidWeight) → readOf (fourIn data′) ≡ read
-    → weightSaid (weighed load (fourIn data′) read) ≡ said-as.Weight said → Carried (Weight load) data′ said
-carried-read load data′ (read-as.Good reading) said was e =
-    let same : record { load = load; bytes = fourIn data′; reading = reading } ≡ said = cc in
+carried-read : (family : Family) (load : Load) (data′ : List ℕ) (read : Read) (said : SaidWeight) → readOf (fourIn family data′) ≡ read
+    → weightSaid (weighed load (fourIn family data′) read) ≡ said-as.Weight said → Carried family (Weight load) data′ said
+carried-read family load data′ (read-as.Good reading) said was e =
+    let same : record { load = load; bytes = fourIn family data′; reading = reading } ≡ said = cc in
     record {
       row-is = ap (λ (one : SaidWeight). Weight (one .load)) same;
       bytes-are = ap (λ (one : SaidWeight). one .bytes) same;
       reads = rw (← same) was;
     }
-carried-read load data′ (read-as.Refused why) said was e = record { row-is = cc; bytes-are = cc; reads = cc }
+carried-read family load data′ (read-as.Refused why) said was e = record { row-is = cc; bytes-are = cc; reads = cc }
 
-pub carried : (row : Row) (from : ℕ) (data′ : List ℕ) (said : SaidWeight) → weightSaid (meaning row from data′) ≡ said-as.Weight said → Carried row data′ said
-carried (Weight load) from data′ said e = carried-read load data′ (readOf (fourIn data′)) said refl e
-carried Unknown from data′ said e = record { row-is = cc; bytes-are = cc; reads = cc }
-carried Empty from data′ said e = record { row-is = cc; bytes-are = cc; reads = cc }
-carried Serial from data′ said e = record { row-is = cc; bytes-are = cc; reads = cc }
-carried (Number numbers) from data′ said e = record { row-is = cc; bytes-are = cc; reads = cc }
-carried Status from data′ said e = record { row-is = cc; bytes-are = cc; reads = cc }
-carried Inputs from data′ said e = record { row-is = cc; bytes-are = cc; reads = cc }
-carried Outputs from data′ said e = record { row-is = cc; bytes-are = cc; reads = cc }
-carried (Text numbers) from data′ said e = record { row-is = cc; bytes-are = cc; reads = cc }
-carried Event from data′ said e = record { row-is = cc; bytes-are = cc; reads = cc }
-carried Converter from data′ said e = record { row-is = cc; bytes-are = cc; reads = cc }
-carried Error from data′ said e = record { row-is = cc; bytes-are = cc; reads = cc }
+pub carried : (family : Family) (row : Row) (from : ℕ) (data′ : List ℕ) (said : SaidWeight) → weightSaid (meaning family row from data′) ≡ said-as.Weight said → Carried family row data′ said
+carried family (Weight load) from data′ said e = carried-read family load data′ (readOf (fourIn family data′)) said refl e
+carried family Unknown from data′ said e = record { row-is = cc; bytes-are = cc; reads = cc }
+carried family Empty from data′ said e = record { row-is = cc; bytes-are = cc; reads = cc }
+carried family Serial from data′ said e = record { row-is = cc; bytes-are = cc; reads = cc }
+carried family (Number numbers) from data′ said e = record { row-is = cc; bytes-are = cc; reads = cc }
+carried family Status from data′ said e = record { row-is = cc; bytes-are = cc; reads = cc }
+carried family Inputs from data′ said e = record { row-is = cc; bytes-are = cc; reads = cc }
+carried family Outputs from data′ said e = record { row-is = cc; bytes-are = cc; reads = cc }
+carried family (Text numbers) from data′ said e = record { row-is = cc; bytes-are = cc; reads = cc }
+carried family Event from data′ said e = record { row-is = cc; bytes-are = cc; reads = cc }
+carried family Converter from data′ said e = record { row-is = cc; bytes-are = cc; reads = cc }
+carried family Error from data′ said e = record { row-is = cc; bytes-are = cc; reads = cc }

@@ -4,6 +4,7 @@ use mathlib.Core.List.{List}
 use lib.ListN.{length, getD}
 use Rattle.body.specs.declared.addresses.Address.{Address}
 use Rattle.body.specs.Addresses.{addressLength}
+use Rattle.weight.specs.declared.families.Family.{Family}
 use Rattle.weight.specs.declared.FourBytes.{FourBytes}
 use Rattle.weight.specs.declared.Read.{Read}
 use Rattle.weight.specs.declared.Read.the-variants as read-as
@@ -30,17 +31,17 @@ weighed load bytes (read-as.Refused why) = says.Nothing
 abbrev pub dataFrom : Address → ℕ
 dataFrom address = addressLength address + 1
 
--- the data begin at place `from` of the body
-abbrev pub meaning : Row → ℕ → List ℕ → What
-meaning Unknown from data′ = says.Nothing
-meaning Empty from data′ = says.Nothing
-meaning Serial from data′ = says.Serial (lowFirst data′)
-meaning (Number numbers) from data′ = says.Number (getD data′ 0 0)
-meaning Status from data′ = says.Status (getD data′ 0 0)
-meaning (Weight load) from data′ = weighed load (fourIn data′) (readIn data′)
-meaning Inputs from data′ = says.Inputs (lowFirst data′) (onIn data′)
-meaning Outputs from data′ = says.Outputs (lowFirst data′)
-meaning (Text numbers) from data′ = says.Text (getD data′ 0 0) (from + 2) (from + length data′)
-meaning Event from data′ = says.Event (getD data′ 0 0) (from + 1) (from + length data′)
-meaning Converter from data′ = says.Converter (lowFirst data′)
-meaning Error from data′ = says.Error (getD data′ 0 0)
+-- the data begin at place `from` of the body; a weight is read by the family of its line
+abbrev pub meaning : Family → Row → ℕ → List ℕ → What
+meaning family Unknown from data′ = says.Nothing
+meaning family Empty from data′ = says.Nothing
+meaning family Serial from data′ = says.Serial (lowFirst data′)
+meaning family (Number numbers) from data′ = says.Number (getD data′ 0 0)
+meaning family Status from data′ = says.Status (getD data′ 0 0)
+meaning family (Weight load) from data′ = weighed load (fourIn family data′) (readIn family data′)
+meaning family Inputs from data′ = says.Inputs (lowFirst data′) (onIn data′)
+meaning family Outputs from data′ = says.Outputs (lowFirst data′)
+meaning family (Text numbers) from data′ = says.Text (getD data′ 0 0) (from + 2) (from + length data′)
+meaning family Event from data′ = says.Event (getD data′ 0 0) (from + 1) (from + length data′)
+meaning family Converter from data′ = says.Converter (lowFirst data′)
+meaning family Error from data′ = says.Error (getD data′ 0 0)

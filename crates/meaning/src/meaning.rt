@@ -14,9 +14,11 @@ use inputs::count_on;
 use low_first::long;
 use low_first::word;
 use refusal::Refusal;
+use weight::Family;
 use weight::FourBytes;
 use weight::Read;
 use weight::Reading;
+use weight::family_number;
 use weight::read_bytes;
 ghost use mathlib.Core.Path.{_≡_};
 ghost use mathlib.Core.Bool.{true};
@@ -27,7 +29,7 @@ ghost use Rattle.codes.specs.Lengths.{lengthOf, lengthRight};
 ghost use Rattle.weight.specs.Bytes.{fourIn};
 ghost use Rattle.meaning.specs.Meaning.{onIn};
 ghost use Rattle.meaning.specs.Weights.{weightSaid};
-ghost use Rattle.meaning.specs.Judging.{within, said, told};
+ghost use Rattle.meaning.specs.Judging.{within, said, SaidByEach, told};
 
 // A weight as it was said: gross or net, its four bytes, and the reading that they stand for. The log notes the bytes, the listing shows the reading.
 pub struct SaidWeight {
@@ -81,16 +83,17 @@ fn converter_in(data: &[u8]) -> u64
     long(low, high)
 }
 
-// W0 W1 W2 CON.
-fn weight_in(data: &[u8]) -> FourBytes
+// W0 W1 W2 CON, of a line of a family.
+fn weight_in(family: Family, data: &[u8]) -> FourBytes
     requires { ⌜ length (now «data») ≡ 4 ⌝ }
-    ensures { λ r. ⌜ r ≡ fourIn (now («data» .entry)) ⌝ }
+    ensures { λ r. ⌜ r ≡ fourIn family (now («data» .entry)) ⌝ }
 {
     FourBytes {
         w0: data[0],
         w1: data[1],
         w2: data[2],
         con: data[3],
+        family: family_number(family),
     }
 }
 
@@ -124,7 +127,7 @@ fn judged(right: bool, what: What) -> Told
 // NUM, a count, and that many characters. The data have the right length and are judged 8. They begin at place `from` of a body.
 fn say_text(numbers: Num, from: usize, data: &[u8]) -> Told
     requires { ⌜ (lengthRight Length.Counted (now «data») ≡ true) × (from ≤ 255) ⌝ }
-    ensures { λ r. ⌜ r ≡ said (Row.Text numbers) from (now («data» .entry)) ⌝ }
+    ensures { λ r. ⌜ SaidByEach (Row.Text numbers) from (now («data» .entry)) r ⌝ }
 {
     let number = data[0];
     let text = from + 2;
@@ -142,7 +145,7 @@ fn say_text(numbers: Num, from: usize, data: &[u8]) -> Told
 // EVENT and six bytes. The data have the right length and are judged 8. They begin at place `from` of a body.
 fn say_event(from: usize, data: &[u8]) -> Told
     requires { ⌜ (length (now «data») ≡ 7) × (from ≤ 255) ⌝ }
-    ensures { λ r. ⌜ r ≡ said Row.Event from (now («data» .entry)) ⌝ }
+    ensures { λ r. ⌜ SaidByEach Row.Event from (now («data» .entry)) r ⌝ }
 {
     let event = data[0];
     let six = from + 1;
@@ -158,9 +161,9 @@ fn say_event(from: usize, data: &[u8]) -> Told
 }
 
 // What data of the right length say. They are judged 8 and begin at place `from` of a body.
-fn say(row: Row, from: usize, data: &[u8]) -> Told
+fn say(family: Family, row: Row, from: usize, data: &[u8]) -> Told
     requires { ⌜ (lengthRight (lengthOf row) (now «data») ≡ true) × (from ≤ 255) ⌝ }
-    ensures { λ r. ⌜ r ≡ said row from (now («data» .entry)) ⌝ }
+    ensures { λ r. ⌜ r ≡ said family row from (now («data» .entry)) ⌝ }
 {
     match row {
         Row::Unknown => Told::What(What::Nothing), // 6 comes first
@@ -175,7 +178,7 @@ fn say(row: Row, from: usize, data: &[u8]) -> Told
             judged(status < 0x80, What::Status(status))
         }
         Row::Weight(load) => {
-            let bytes = weight_in(data);
+            let bytes = weight_in(family, data);
             match read_bytes(bytes) {
                 Read::Good(reading) => Told::What(What::Weight(SaidWeight {
                     load,
@@ -202,8 +205,8 @@ fn say(row: Row, from: usize, data: &[u8]) -> Told
 }
 
 // What code and data say, judged 6, 7, 8. In a body the data stand behind the address and the code.
-pub fn tell(role: Role, address: Address, code: u8, data: &[u8]) -> Told
-    ensures { λ r. ⌜ r ≡ told role address code (now («data» .entry)) ⌝ }
+pub fn tell(role: Role, family: Family, address: Address, code: u8, data: &[u8]) -> Told
+    ensures { λ r. ⌜ r ≡ told role family address code (now («data» .entry)) ⌝ }
 {
     let row = row_of(role, code);
     if !in_table(row) {
@@ -213,7 +216,7 @@ pub fn tell(role: Role, address: Address, code: u8, data: &[u8]) -> Told
         return Told::Refused(Refusal::LengthWrong);
     }
     let from = address_length(address) + 1;
-    say(row, from, data)
+    say(family, row, from, data)
 }
 
 // The weight that a message says, or that it says none. Whoever asks only this need not know what else a message may say.

@@ -8,7 +8,9 @@ use Rattle.refusal.specs.declared.Refusal.{Refusal}
 use Rattle.refusal.specs.declared.Refusal.the-variants.{BodyShort, BodyLong, CheckWrong, AddressIllegal, LengthWrong, RoomShort}
 use Rattle.refusal.specs.declared.Verdict.the-variants as verdict-as
 use Rattle.check_byte.specs.Register.{received, checkOf, feedAll, feedByte, feedBits, shiftIn}
-use Rattle.weight.specs.Bytes.{fourIn, readOf}
+use Rattle.weight.specs.declared.families.Family.the-variants.{Of002}
+use Rattle.weight.specs.Families.{namedIn, familyNamed}
+use Rattle.weight.specs.Bytes.{fourIn, readAs, readOf}
 use Rattle.body.specs.declared.addresses.Address.{Address}
 use Rattle.body.specs.declared.addresses.Address.the-variants.{Short, Serial}
 use Rattle.body.specs.Addresses.{legal, addressBytes, addressIn, addressLength}
@@ -25,7 +27,7 @@ use Rattle.meaning.specs.Judging.{judgedCode, judgedData, judgedMessage}
 use Rattle.message.specs.Reading.{messageOf, readIf, readMessage}
 use Rattle.message.specs.Writing.{judgedMessageWrite}
 
--- ---- bodies, read as replies
+-- ---- bodies, read as replies of 002
 
 pub record Heard : Type 0 where
   pub body : List ℕ
@@ -53,8 +55,8 @@ bodies =
     ∷ read-as (0xFE ∷ 0xC3 ∷ checkOf (0xFE ∷ 0xC3 ∷ []) ∷ []) (received-as.Refused AddressIllegal)
     ∷ []
 
-pub bodies-read : map (λ (heard : Heard). readMessage Reply (heard .body)) bodies ≡ map (λ (heard : Heard). heard .answer) bodies
-unfolding readMessage readIf messageOf judgedMessage judgedCode judgedData rowOf lineOf lineIn fourIn readOf lowFirst short received checkOf feedAll feedByte feedBits shiftIn legal addressIn addressLength codeIn dataIn
+pub bodies-read : map (λ (heard : Heard). readMessage Reply Of002 (heard .body)) bodies ≡ map (λ (heard : Heard). heard .answer) bodies
+unfolding readMessage readIf messageOf judgedMessage judgedCode judgedData rowOf lineOf lineIn fourIn readOf readAs familyNamed namedIn lowFirst short received checkOf feedAll feedByte feedBits shiftIn legal addressIn addressLength codeIn dataIn
 bodies-read = refl
 
 -- ---- the longest text: 250 characters with a short address, 247 with a serial. With no room at all, a message that is not too long is 9.
@@ -78,7 +80,7 @@ texts =
     ∷ text-of (Short 0) 255 AddressIllegal
     ∷ []
 
-pub texts-judged : map (λ (text : Long). judgedMessageWrite Request (text .address) 0xD2 (0x01 ∷ text .count ∷ replicate (text .count) 0x41) []) texts
+pub texts-judged : map (λ (text : Long). judgedMessageWrite Request Of002 (text .address) 0xD2 (0x01 ∷ text .count ∷ replicate (text .count) 0x41) []) texts
     ≡ map (λ (text : Long). verdict-as.Refused (text .answer)) texts
 unfolding judgedMessageWrite judgedMessage judgedCode judgedData rowOf lineOf lineIn legal bodyOf unchecked addressBytes lowBytes needed countFF checkOf feedAll feedByte feedBits shiftIn
 texts-judged = refl

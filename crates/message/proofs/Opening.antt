@@ -16,6 +16,7 @@ use Rattle.body.specs.declared.bodies.Opened.the-variants as opened-as
 use Rattle.body.specs.Addresses.{addressIn, addressLength}
 use Rattle.body.specs.Body.{short, judgedLentIf, codeIn, dataIn, partsOf, openedIf}
 use Rattle.body.proofs.Shortness.{address-inside, told-not-short}
+use Rattle.weight.specs.declared.families.Family.{Family}
 use Rattle.codes.specs.declared.table.Role.{Role}
 use Rattle.meaning.specs.declared.meaning.What.{What}
 use Rattle.meaning.specs.declared.meaning.Told.the-variants as told-as
@@ -49,9 +50,9 @@ part (suc from) (suc to) (byte ∷ l) = rw suc-sub-suc (part from to l)
 
 -- ---- a body that was opened, or was not
 
-pub unopened : (right : Bool) (role : Role) (body : List ℕ) (why : Refusal) → openedIf right body ≡ opened-as.Refused why → received-as.Refused why ≡ readIf right role body
+pub unopened : (right : Bool) (role : Role) (family : Family) (body : List ℕ) (why : Refusal) → openedIf right body ≡ opened-as.Refused why → received-as.Refused why ≡ readIf right role family body
 unfolding openedIf readIf
-unopened right role body why e = rw (verdict-refused opened-tells (judgedLentIf right body) _ why e)
+unopened right role family body why e = rw (verdict-refused opened-tells (judgedLentIf right body) _ why e)
 
 module _ (right : Bool) (body : List ℕ) (parts : Parts) (opened : openedIf right body ≡ opened-as.Parts parts) where
   was-good : judgedLentIf right body ≡ Good
@@ -79,23 +80,23 @@ module _ (right : Bool) (body : List ℕ) (parts : Parts) (opened : openedIf rig
   part-is = part (parts .from) (parts .to) body ∙ rw parts-are
 
   -- what is told of them is told of the body's code and data
-  module _ (role : Role) where
-    told-body : told role (parts .address) (parts .code) (take (parts .to - parts .from) (drop (parts .from) body))
-        ≡ told role (addressIn body) (codeIn body) (dataIn body)
+  module _ (role : Role) (family : Family) where
+    told-body : told role family (parts .address) (parts .code) (take (parts .to - parts .from) (drop (parts .from) body))
+        ≡ told role family (addressIn body) (codeIn body) (dataIn body)
     unfolding partsOf
     told-body = rw (part-is, parts-are)
 
-    pub untold : (why : Refusal) → told role (parts .address) (parts .code) (take (parts .to - parts .from) (drop (parts .from) body)) ≡ told-as.Refused why
-        → received-as.Refused why ≡ readIf right role body
+    pub untold : (why : Refusal) → told role family (parts .address) (parts .code) (take (parts .to - parts .from) (drop (parts .from) body)) ≡ told-as.Refused why
+        → received-as.Refused why ≡ readIf right role family body
     unfolding told readIf
     untold why e =
-        let verdict = verdict-refused told-tells (judgedMessage role (codeIn body) (dataIn body)) _ why (sym told-body ∙ e) in
+        let verdict = verdict-refused told-tells (judgedMessage role family (codeIn body) (dataIn body)) _ why (sym told-body ∙ e) in
         rw (was-good, verdict)
 
-    pub message-told : (what : What) → told role (parts .address) (parts .code) (take (parts .to - parts .from) (drop (parts .from) body)) ≡ told-as.What what
+    pub message-told : (what : What) → told role family (parts .address) (parts .code) (take (parts .to - parts .from) (drop (parts .from) body)) ≡ told-as.What what
         → received-as.Message (record { address = parts .address; code = parts .code; from = parts .from; to = parts .to; what = what })
-        ≡ readIf right role body
+        ≡ readIf right role family body
     unfolding told readIf messageOf partsOf
     message-told what e =
-        let answer = verdict-good told-tells (judgedMessage role (codeIn body) (dataIn body)) _ what (sym told-body ∙ e) in
+        let answer = verdict-good told-tells (judgedMessage role family (codeIn body) (dataIn body)) _ what (sym told-body ∙ e) in
         rw (was-good, answer .0, answer .1, data-end body long, parts-are)

@@ -17,6 +17,7 @@ use Rattle.refusal.proofs.Verdicts.{verdict-refused}
 use Rattle.check_byte.specs.Register.{received}
 use Rattle.body.specs.Addresses.{legal, addressIn}
 use Rattle.body.specs.Body.{longest, short, judged, judgedLent, codeIn, dataIn}
+use Rattle.weight.specs.declared.families.Family.{Family}
 use Rattle.codes.specs.declared.table.Role.{Role}
 use Rattle.codes.specs.Table.{rowOf, inTable}
 use Rattle.codes.specs.Lengths.{lengthOf, lengthRight}
@@ -55,23 +56,23 @@ module _ (holds : Refusal → Type 0) where
     end-refuses why e = subst OfRefusal e at-end
 
     module _ (two : holds BodyLong) (six : holds CodeUnknown) (seven : holds LengthWrong) (eight : holds FieldOutside) where
-      of-message : (role : Role) (code : ℕ) (data′ : List ℕ) → OfRefusal (judgedMessage role code data′)
+      of-message : (role : Role) (family : Family) (code : ℕ) (data′ : List ℕ) → OfRefusal (judgedMessage role family code data′)
       unfolding judgedMessage judgedCode judgedData OfRefusal
-      of-message role code data′ =
+      of-message role family code data′ =
           one-then (judgedCode role code) _ (refusing (not (inTable (rowOf role code))) _ _ (λ _. six) tt)
           (refusing (not (lengthRight (lengthOf (rowOf role code)) data′)) _ _ (λ _. seven)
-          (refusing (not (fieldsRight (rowOf role code) data′)) _ _ (λ _. eight) tt))
+          (refusing (not (fieldsRight family (rowOf role code) data′)) _ _ (λ _. eight) tt))
 
-      of-body : (role : Role) → OfRefusal (judgedBody role body)
+      of-body : (role : Role) (family : Family) → OfRefusal (judgedBody role family body)
       unfolding judgedLent judged
-      of-body role =
-          rw (in-order role body)
-          (one-then (judgedLent body) _ (refusing (ltb longest (length body)) _ _ (λ _. two) at-end) (of-message role (codeIn body) (dataIn body)))
+      of-body role family =
+          rw (in-order role family body)
+          (one-then (judgedLent body) _ (refusing (ltb longest (length body)) _ _ (λ _. two) at-end) (of-message role family (codeIn body) (dataIn body)))
 
-      pub message-refuses : (role : Role) (why : Refusal) → readMessage role body ≡ received-as.Refused why → holds why
+      pub message-refuses : (role : Role) (family : Family) (why : Refusal) → readMessage role family body ≡ received-as.Refused why → holds why
       unfolding OfRefusal
-      message-refuses role why e = subst OfRefusal (verdict-refused received-tells (judgedBody role body) _ why (sym (read-so role body) ∙ e)) (of-body role)
+      message-refuses role family why e = subst OfRefusal (verdict-refused received-tells (judgedBody role family body) _ why (sym (read-so role family body) ∙ e)) (of-body role family)
 
 -- so each of them is a refusal that a line can meet
-pub message-met : (role : Role) (body : List ℕ) (why : Refusal) → readMessage role body ≡ received-as.Refused why → lineStatus (numberOf why) ≡ true
-message-met role body = message-refuses (λ (why : Refusal). lineStatus (numberOf why) ≡ true) body refl refl (λ _. refl) refl refl refl refl role
+pub message-met : (role : Role) (family : Family) (body : List ℕ) (why : Refusal) → readMessage role family body ≡ received-as.Refused why → lineStatus (numberOf why) ≡ true
+message-met role family body = message-refuses (λ (why : Refusal). lineStatus (numberOf why) ≡ true) body refl refl (λ _. refl) refl refl refl refl role family

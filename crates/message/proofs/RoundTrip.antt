@@ -18,6 +18,7 @@ use Rattle.body.specs.Body.{bodyOf, judged, judgedLent, codeIn, dataIn}
 use Rattle.frame.specs.Stuffing.{needed}
 use Rattle.body.proofs.Rebuilding.{address-back, code-back, data-back, made-good, good-address, rebuilt, lent-good, lent-at-most}
 use Rattle.body.proofs.Shortness.{good-not-short}
+use Rattle.weight.specs.declared.families.Family.{Family}
 use Rattle.codes.specs.declared.table.Role.{Role}
 use Rattle.message.specs.declared.reading.Message.{Message}
 use Rattle.message.specs.declared.reading.Received.the-variants as received-as
@@ -37,27 +38,27 @@ second-good Good second e = e
 second-good (Refused why) second e = refused-not-good e
 
 -- what the writer judges good
-pub may-be-written : (role : Role) (address : Address) (code : ℕ) (data′ room : List ℕ) → legal address ≡ true → judgedMessage role code data′ ≡ Good
-    → length (bodyOf address code data′) ≤ 255 → needed (bodyOf address code data′) ≤ length room → judgedMessageWrite role address code data′ room ≡ Good
+pub may-be-written : (role : Role) (family : Family) (address : Address) (code : ℕ) (data′ room : List ℕ) → legal address ≡ true → judgedMessage role family code data′ ≡ Good
+    → length (bodyOf address code data′) ≤ 255 → needed (bodyOf address code data′) ≤ length room → judgedMessageWrite role family address code data′ room ≡ Good
 unfolding judgedMessageWrite
-may-be-written role address code data′ room is-legal good fits enough = rw (is-legal, good, le-ltb _ _ fits, le-ltb _ _ enough)
+may-be-written role family address code data′ room is-legal good fits enough = rw (is-legal, good, le-ltb _ _ fits, le-ltb _ _ enough)
 
 -- ---- read, then written
 
-module _ (role : Role) (body : List ℕ) (message : Message) (received : readMessage role body ≡ received-as.Message message) where
-  both-good : judgedBody role body ≡ Good
+module _ (role : Role) (family : Family) (body : List ℕ) (message : Message) (received : readMessage role family body ≡ received-as.Message message) where
+  both-good : judgedBody role family body ≡ Good
   unfolding readMessage readIf judgedBody
-  both-good = verdict-good received-tells (judgedBody role body) _ message received .0
+  both-good = verdict-good received-tells (judgedBody role family body) _ message received .0
 
-  pub message-is : message ≡ messageOf role (addressIn body) (codeIn body) (dataIn body)
+  pub message-is : message ≡ messageOf role family (addressIn body) (codeIn body) (dataIn body)
   unfolding readMessage readIf judgedBody
-  message-is = verdict-good received-tells (judgedBody role body) _ message received .1
+  message-is = verdict-good received-tells (judgedBody role family body) _ message received .1
 
   pub read-lent : judgedLent body ≡ Good
   unfolding judgedBody judgedLent
   read-lent = first-good (judgedLent body) _ both-good
 
-  pub read-judged : judgedMessage role (codeIn body) (dataIn body) ≡ Good
+  pub read-judged : judgedMessage role family (codeIn body) (dataIn body) ≡ Good
   unfolding judgedBody judgedLent
   read-judged = second-good (judgedLent body) _ both-good
 
@@ -75,40 +76,40 @@ module _ (role : Role) (body : List ℕ) (message : Message) (received : readMes
     body-back = rw (data-are, message-is) rebuilt-body
 
     pub again : (room : List ℕ) → needed body ≤ length room
-        → judgedMessageWrite role (message .address) (message .code) (slice (message .from) (message .to) body) room ≡ Good
+        → judgedMessageWrite role family (message .address) (message .code) (slice (message .from) (message .to) body) room ≡ Good
     unfolding messageOf
     again room enough =
         rw (data-are, message-is)
-        (may-be-written role (addressIn body) (codeIn body) (dataIn body) room (good-address body (lent-good body read-lent)) read-judged
+        (may-be-written role family (addressIn body) (codeIn body) (dataIn body) room (good-address body (lent-good body read-lent)) read-judged
         (rw rebuilt-body (lent-at-most body read-lent)) (rw rebuilt-body enough))
 
 -- ---- written, then read
 
-module _ (role : Role) (address : Address) (code : ℕ) (data′ room : List ℕ) (good : judgedMessageWrite role address code data′ room ≡ Good) where
+module _ (role : Role) (family : Family) (address : Address) (code : ℕ) (data′ room : List ℕ) (good : judgedMessageWrite role family address code data′ room ≡ Good) where
   written-legal : legal address ≡ true
   unfolding judgedMessageWrite
   written-legal = not-false _ (test-passed (not (legal address)) _ _ good)
 
-  written-judged : judgedMessage role code data′ ≡ Good
+  written-judged : judgedMessage role family code data′ ≡ Good
   unfolding judgedMessageWrite
-  written-judged = first-good (judgedMessage role code data′) _ (rest-passed (not (legal address)) _ _ good)
+  written-judged = first-good (judgedMessage role family code data′) _ (rest-passed (not (legal address)) _ _ good)
 
   written-fits : length (bodyOf address code data′) ≤ 255
   unfolding judgedMessageWrite
   written-fits =
       ltb-false 255 _
       (test-passed (ltb 255 (length (bodyOf address code data′))) _ _
-      (second-good (judgedMessage role code data′) _ (rest-passed (not (legal address)) _ _ good)))
+      (second-good (judgedMessage role family code data′) _ (rest-passed (not (legal address)) _ _ good)))
 
   pub written-lent : judgedLent (bodyOf address code data′) ≡ Good
   unfolding judgedLent judged
   written-lent = rw (le-ltb 255 (length (bodyOf address code data′)) written-fits) (made-good code data′ address written-legal)
 
-  pub read-back : readMessage role (bodyOf address code data′) ≡ received-as.Message (messageOf role address code data′)
+  pub read-back : readMessage role family (bodyOf address code data′) ≡ received-as.Message (messageOf role family address code data′)
   read-back =
       rw (
-        read-so role (bodyOf address code data′),
-        in-order role (bodyOf address code data′),
+        read-so role family (bodyOf address code data′),
+        in-order role family (bodyOf address code data′),
         written-lent,
         address-back code data′ address written-legal,
         code-back code data′ address written-legal,
@@ -116,5 +117,5 @@ module _ (role : Role) (address : Address) (code : ℕ) (data′ room : List ℕ
         written-judged,
       )
 
-  pub data-stand : slice (messageOf role address code data′ .from) (messageOf role address code data′ .to) (bodyOf address code data′) ≡ data′
-  data-stand = data-are role (bodyOf address code data′) (messageOf role address code data′) read-back ∙ data-back code data′ address written-legal
+  pub data-stand : slice (messageOf role family address code data′ .from) (messageOf role family address code data′ .to) (bodyOf address code data′) ≡ data′
+  data-stand = data-are role family (bodyOf address code data′) (messageOf role family address code data′) read-back ∙ data-back code data′ address written-legal

@@ -8,11 +8,12 @@ use meaning::Told;
 use meaning::What;
 use meaning::tell;
 use refusal::Refusal;
+use weight::Family;
 ghost use mathlib.Core.Path.{_≡_};
 ghost use Rattle.message.specs.Reading.{readIf, readMessage};
 
 // A message. Its data are the bytes of the lent body from place `from` up to but not including place `to`. Handed to the writer with
-// the same role, address and code, they make the same body.
+// the same role, family, address and code, they make the same body.
 pub struct Message {
     pub address: Address,
     pub code: u8,
@@ -27,10 +28,10 @@ pub enum Received {
     Refused(Refusal),
 }
 
-// A lent body read in a role. An argument tells whether its check is right. Judged 2, 1, 4, 5, and then 6, 7, 8. The line has found the
+// A lent body read in a role, by the family of its line. An argument tells whether its check is right. Judged 2, 1, 4, 5, and then 6, 7, 8. The line has found the
 // check right in a body that it handed out, so it need not be tested again.
-pub fn read_without_check(role: Role, right: bool, body: &[u8]) -> Received
-    ensures { λ r. ⌜ r ≡ readIf right role (now (body .entry)) ⌝ }
+pub fn read_without_check(role: Role, family: Family, right: bool, body: &[u8]) -> Received
+    ensures { λ r. ⌜ r ≡ readIf right role family (now (body .entry)) ⌝ }
 {
     match open_without_check(right, body) {
         Opened::Refused(why) => Received::Refused(why),
@@ -39,7 +40,7 @@ pub fn read_without_check(role: Role, right: bool, body: &[u8]) -> Received
             let code = parts.code;
             let from = parts.from;
             let to = parts.to;
-            match tell(role, address, code, &body[from..to]) {
+            match tell(role, family, address, code, &body[from..to]) {
                 Told::Refused(why) => Received::Refused(why),
                 Told::What(what) => Received::Message(Message {
                     address,
@@ -53,9 +54,9 @@ pub fn read_without_check(role: Role, right: bool, body: &[u8]) -> Received
     }
 }
 
-// A lent body read in a role. Judged 2, 1, 4, 5, and then 6, 7, 8.
-pub fn read(role: Role, body: &[u8]) -> Received
-    ensures { λ r. ⌜ r ≡ readMessage role (now (body .entry)) ⌝ }
+// A lent body read in a role, by the family of its line. Judged 2, 1, 4, 5, and then 6, 7, 8.
+pub fn read(role: Role, family: Family, body: &[u8]) -> Received
+    ensures { λ r. ⌜ r ≡ readMessage role family (now (body .entry)) ⌝ }
 {
-    read_without_check(role, check_right(body), body)
+    read_without_check(role, family, check_right(body), body)
 }

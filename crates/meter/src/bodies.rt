@@ -1,4 +1,4 @@
-// Reading bodies of 7 bytes as replies, as many as a block has. All that each message says goes into the sum.
+// Reading bodies of 7 bytes as replies of a line of 002, as many as a block has. All that each message says goes into the sum.
 use crate::tally::Counts;
 use crate::tally::good;
 use crate::tally::refused;
@@ -10,7 +10,9 @@ use message::Received;
 use message::read;
 use refusal::number;
 use std::num::wrapping_add_u64;
+use weight::Family;
 use weight::Reading;
+use weight::family_number;
 
 const BODY: usize = 7;
 
@@ -22,8 +24,10 @@ fn sum_of_reading(reading: Reading) -> u64 {
     let signs = marked(reading.minus, 128)
         | marked(reading.settled, 16)
         | marked(reading.overload, 8);
+    let family = reading.family;
     let marks = signs | marked(reading.bit6, 64) | marked(reading.bit5, 32);
-    wrapping_add_u64(reading.number as u64, marks | reading.point as u64)
+    let known = wrapping_add_u64(marks | reading.point as u64, family_number(family) as u64);
+    wrapping_add_u64(reading.number as u64, known)
 }
 
 fn sum_of_part(number: u8, from: usize, to: usize) -> u64 {
@@ -78,7 +82,7 @@ pub(crate) fn read_bodies(counted_before: Counts, block: &[u8]) -> Counts {
     let mut at = 0;
     while BODY <= block.len() - at {
         let end = at + BODY;
-        counts = counted(counts, read(Role::Reply, &block[at..end]));
+        counts = counted(counts, read(Role::Reply, Family::Of002, &block[at..end]));
         at = end;
     }
     counts

@@ -35,6 +35,7 @@ fn record_in(bytes: &[u8]) -> Record
         w0: bytes[14],
         w1: bytes[15],
         w2: bytes[16],
+        family: bytes[17],
     }
 }
 

@@ -8,6 +8,6 @@ use Rattle.crossing.specs.declared.events.QuayEvent.{QuayEvent}
 use Rattle.quay_listing.specs.declared.lines.QuayListed.{QuayListed}
 use Rattle.quay_listing.specs.Lines.{Lists}
 
-pub quay-list-event-one : (number : ℕ) (event : QuayEvent) (body room : List ℕ) (a b : QuayListed) (l m : List ℕ)
-    → Lists number event body room a l → Lists number event body room b m → (a ≡ b) × (l ≡ m)
-quay-list-event-one number event body room a b l m p q = (one (p .answer) (q .answer), one (p .room) (q .room))
+pub quay-list-event-one : (number family : ℕ) (event : QuayEvent) (body room : List ℕ) (a b : QuayListed) (l m : List ℕ)
+    → Lists number family event body room a l → Lists number family event body room b m → (a ≡ b) × (l ≡ m)
+quay-list-event-one number family event body room a b l m p q = (one (p .answer) (q .answer), one (p .room) (q .room))

@@ -1,8 +1,10 @@
 // Events as lines of text, and the total line.
 use crossing::Given;
+use crossing::Kin;
 use crossing::QuayEvent;
 use crossing::QuayWritten;
 use crossing::event_from;
+use crossing::family_from;
 use crossing::written_out;
 use entries::Entry;
 use entries::heard;
@@ -56,20 +58,24 @@ fn list_entry(number: u64, entry: Entry, room: &mut [u8]) -> QuayListed
     }
 }
 
-// Writes the line of an event, as the event of that number. A frame's body stands at the front of the lent bytes and is judged again. Judged
-// 8 for a kind of event that does not exist or a refusal that no line can meet, and then 9.
+// Writes the line of an event, as the event of that number. A frame's body stands at the front of the lent bytes and is judged again, by
+// the family of the line. Judged 8 for a family or a kind of event that does not exist or a refusal that no line can meet, and then 9.
 #[no_mangle]
 pub extern "C" fn quay_list_event(
     number: u64,
+    family: u8,
     event: QuayEvent,
     body: &[u8],
     room: &mut [u8],
 ) -> QuayListed
-    ensures { λ r. ⌜ Lists number event (now (body .entry)) (now (room .entry)) r (now (room .exit)) ⌝ }
+    ensures { λ r. ⌜ Lists number family event (now (body .entry)) (now (room .entry)) r (now (room .exit)) ⌝ }
 {
-    match event_from(event) {
-        Given::Refused(why) => unlisted(why),
-        Given::Event(given) => list_entry(number, heard(given, body), room),
+    match family_from(family) {
+        Kin::Refused(why) => unlisted(why),
+        Kin::Family(kin) => match event_from(event) {
+            Given::Refused(why) => unlisted(why),
+            Given::Event(given) => list_entry(number, heard(kin, given, body), room),
+        },
     }
 }
 

@@ -1,5 +1,5 @@
 -- Shown: a legal address that crosses comes back as itself, and the bytes that stand for no weight read as none.
--- Why: a legal short address is not 0; no half of FF is a digit.
+-- Why: a legal short address is not 0; no family has the number 255.
 use mathlib.Core.Path.{_≡_, refl}
 use mathlib.Core.Bool.{true, and-eq-true-iff}
 use borrow.Author.Tests.{ne-eqb, leb-true}
@@ -10,6 +10,7 @@ use Rattle.body.specs.declared.addresses.Address.{Address}
 use Rattle.body.specs.declared.addresses.Address.the-variants.{Short, Serial}
 use Rattle.body.specs.Addresses.{legal, firstByte, serialOf}
 use Rattle.weight.specs.declared.Read.the-variants as read-as
+use Rattle.weight.specs.Families.{namedIn, familyNamed}
 use Rattle.weight.specs.Bytes.{readOf}
 use Rattle.quay_message.specs.Addresses.{addressFrom}
 use Rattle.quay_message.specs.Messages.{withoutDigits}
@@ -22,5 +23,5 @@ address-back (Short short) is-legal =
     rw (ne-eqb short 0 (λ (e : short ≡ 0). omega arith))
 
 pub no-weight : readOf withoutDigits ≡ read-as.Refused FieldOutside
-unfolding readOf
+unfolding readOf familyNamed namedIn
 no-weight = refl

@@ -4,9 +4,10 @@ use Prim.Native.Nat.{ℕ}
 use mathlib.Core.Path.{_≡_}
 use mathlib.Core.List.{List}
 use Rattle.laws.proofs.OneAnswer.{one}
+use Rattle.crossing.specs.Families.{familyFrom}
 use Rattle.crossing.specs.Roles.{roleFrom}
 use Rattle.quay_message.specs.declared.messages.QuayMessage.{QuayMessage}
 use Rattle.quay_message.specs.Messages.{messageIn}
 
-pub quay-read-message-one : (role : ℕ) (body : List ℕ) (a b : QuayMessage) → a ≡ messageIn (roleFrom role) body → b ≡ messageIn (roleFrom role) body → a ≡ b
-quay-read-message-one role body a b = one
+pub quay-read-message-one : (role family : ℕ) (body : List ℕ) (a b : QuayMessage) → a ≡ messageIn (roleFrom role) (familyFrom family) body → b ≡ messageIn (roleFrom role) (familyFrom family) body → a ≡ b
+quay-read-message-one role family body a b = one

@@ -14,12 +14,14 @@ use Rattle.message.specs.Reading.{readMessage}
 use Rattle.records.specs.Records.{kindOf}
 use Rattle.crossing.specs.declared.roles.Asked.{Asked}
 use Rattle.crossing.specs.declared.roles.Asked.the-variants as asked-as
+use Rattle.crossing.specs.declared.families.Kin.{Kin}
+use Rattle.crossing.specs.declared.families.Kin.the-variants as kin-as
 use Rattle.quay_message.specs.declared.messages.QuayWhat.{QuayWhat}
 use Rattle.quay_message.specs.declared.messages.QuayMessage.{QuayMessage}
 
--- no half of these bytes is a digit, so they read as no weight
+-- no half of these bytes is a digit, and no family has the number, so they read as no weight
 abbrev pub withoutDigits : FourBytes
-withoutDigits = record { w0 = 255; w1 = 255; w2 = 255; con = 255 }
+withoutDigits = record { w0 = 255; w1 = 255; w2 = 255; con = 255; family = 255 }
 
 -- all ones: above every number that is said, and above 32 inputs
 abbrev pub noNumber : ℕ
@@ -65,7 +67,9 @@ abbrev pub receivedOut : Received → QuayMessage
 receivedOut (received-as.Message message) = messageOut message
 receivedOut (received-as.Refused why) = noMessage why
 
--- a body read in a role that was handed in; a role that does not exist is refused ahead of the body's own refusals
-abbrev pub messageIn : Asked → List ℕ → QuayMessage
-messageIn (asked-as.Role role) body = receivedOut (readMessage role body)
-messageIn (asked-as.Refused why) body = noMessage why
+-- a body read in a role and by a family that were handed in; a role that does not exist is refused ahead of a family that does not, and both ahead
+-- of the body's own refusals
+abbrev pub messageIn : Asked → Kin → List ℕ → QuayMessage
+messageIn (asked-as.Role role) (kin-as.Family family) body = receivedOut (readMessage role family body)
+messageIn (asked-as.Role role) (kin-as.Refused why) body = noMessage why
+messageIn (asked-as.Refused why) kin body = noMessage why

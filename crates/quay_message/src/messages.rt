@@ -2,6 +2,8 @@
 use body::first_byte;
 use body::serial_of;
 use crossing::Asked;
+use crossing::Kin;
+use crossing::family_from;
 use crossing::role_from;
 use meaning::What;
 use message::Message;
@@ -11,6 +13,7 @@ use refusal::Refusal;
 use refusal::number;
 use weight::FourBytes;
 ghost use mathlib.Core.Path.{_≡_};
+ghost use Rattle.crossing.specs.Families.{familyFrom};
 ghost use Rattle.crossing.specs.Roles.{roleFrom};
 ghost use Rattle.quay_message.specs.Messages.{withoutDigits, plain, placed, whatOut, messageOut, noMessage, receivedOut, messageIn};
 
@@ -43,7 +46,7 @@ pub struct QuayMessage {
     pub refusal: u8,
 }
 
-// Four times FF is no weight: every use of it is refused by 8.
+// All ones are no weight: every use of it is refused by 8.
 fn no_weight() -> FourBytes
     ensures { λ r. ⌜ r ≡ withoutDigits ⌝ }
 {
@@ -52,6 +55,7 @@ fn no_weight() -> FourBytes
         w1: 255,
         w2: 255,
         con: 255,
+        family: 255,
     }
 }
 
@@ -154,13 +158,16 @@ fn received_out(received: Received) -> QuayMessage
     }
 }
 
-// A lent body read in a role. Judged 8 for a role that does not exist, and then 2, 1, 4, 5, 6, 7, 8.
+// A lent body read in a role, by the family of its line. Judged 8 for a role or a family that does not exist, and then 2, 1, 4, 5, 6, 7, 8.
 #[no_mangle]
-pub extern "C" fn quay_read_message(role: u8, body: &[u8]) -> QuayMessage
-    ensures { λ r. ⌜ r ≡ messageIn (roleFrom role) (now (body .entry)) ⌝ }
+pub extern "C" fn quay_read_message(role: u8, family: u8, body: &[u8]) -> QuayMessage
+    ensures { λ r. ⌜ r ≡ messageIn (roleFrom role) (familyFrom family) (now (body .entry)) ⌝ }
 {
     match role_from(role) {
         Asked::Refused(why) => no_message(why),
-        Asked::Role(asked) => received_out(message::read(asked, body)),
+        Asked::Role(asked) => match family_from(family) {
+            Kin::Refused(why) => no_message(why),
+            Kin::Family(kin) => received_out(message::read(asked, kin, body)),
+        },
     }
 }

@@ -1,4 +1,4 @@
--- Weights for another language. Four bytes go in; a reading, a value or kilograms come out. A refused answer has fields that no weight has.
+-- Weights for another language. Four bytes and the number of a family go in; a reading, a value or kilograms come out. A refused answer has fields that no weight has.
 use Prim.Native.Nat.{ℕ}
 use mathlib.Core.Bool.{Bool, true, false}
 use lib.IntN.{ℤ, negsuc}
@@ -10,6 +10,7 @@ use Rattle.weight.specs.declared.Read.{Read}
 use Rattle.weight.specs.declared.Read.the-variants as read-as
 use Rattle.weight.specs.declared.Value.{Value}
 use Rattle.weight.specs.declared.Value.the-variants as value-as
+use Rattle.weight.specs.Families.{familyNumber}
 use Rattle.weight.specs.Tenths.{valueOf, differenceOf}
 use Rattle.kilograms.specs.declared.Kilograms.{Kilograms}
 use Rattle.kilograms.specs.declared.Kilograms.the-variants as kilograms-as
@@ -33,10 +34,11 @@ goodReading reading = record {
   bit5 = mark (reading .bit5);
   settled = mark (reading .settled);
   overload = mark (reading .overload);
+  family = familyNumber (reading .family);
   refusal = 0;
 }
 
--- a number above 999,999, marks above 1. The point is 0: with more digits behind it the number would look small, and like nothing with 255
+-- a number above 999,999, marks above 1, no family. The point is 0: with more digits behind it the number would look small, and like nothing with 255
 abbrev pub noReading : Refusal → QuayReading
 noReading why = record {
   number = 4_294_967_295;
@@ -46,6 +48,7 @@ noReading why = record {
   bit5 = 255;
   settled = 255;
   overload = 255;
+  family = 255;
   refusal = numberOf why;
 }
 

@@ -1,4 +1,4 @@
-// Weights. Four bytes go in, as the wire and the log have them. A reading, its value, a difference or kilograms come out.
+// Weights. Four bytes go in, as the wire and the log have them, and the number of their family. A reading, its value, a difference or kilograms come out.
 use kilograms::Kilograms;
 use kilograms::kilograms_of;
 use refusal::Refusal;
@@ -7,6 +7,7 @@ use weight::FourBytes;
 use weight::Read;
 use weight::Reading;
 use weight::Value;
+use weight::family_number;
 use weight::gross_less_net;
 use weight::read_bytes;
 use weight::value_of;
@@ -14,7 +15,7 @@ ghost use mathlib.Core.Path.{_≡_};
 ghost use Rattle.weight.specs.Bytes.{readOf};
 ghost use Rattle.quay_weight.specs.Weights.{mark, goodReading, noReading, readingOut, valueOut, valueRead, differenceRead, kilogramsOut, kilogramsRead};
 
-// What a terminal shows. The marks are 0 or 1. If refused, the number and the marks are all ones and the point is 0: number and
+// What a terminal shows. The marks are 0 or 1. If refused, the number, the marks and the family are all ones and the point is 0: number and
 // point together are far above any weight.
 #[repr(C)]
 pub struct QuayReading {
@@ -25,6 +26,7 @@ pub struct QuayReading {
     pub bit5: u8,
     pub settled: u8,
     pub overload: u8,
+    pub family: u8, // 0 plain, 1 to 3 for 000 to 002
     pub refusal: u8,
 }
 
@@ -51,6 +53,7 @@ fn mark(set: bool) -> u8
 fn good_reading(reading: Reading) -> QuayReading
     ensures { λ r. ⌜ r ≡ goodReading reading ⌝ }
 {
+    let family = reading.family;
     QuayReading {
         number: reading.number,
         point: reading.point,
@@ -59,6 +62,7 @@ fn good_reading(reading: Reading) -> QuayReading
         bit5: mark(reading.bit5),
         settled: mark(reading.settled),
         overload: mark(reading.overload),
+        family: family_number(family),
         refusal: 0,
     }
 }
@@ -74,6 +78,7 @@ fn no_reading(why: Refusal) -> QuayReading
         bit5: 255,
         settled: 255,
         overload: 255,
+        family: 255,
         refusal: number(why),
     }
 }
@@ -108,7 +113,7 @@ fn kilograms_out(weighed: Kilograms) -> QuayKilograms
     }
 }
 
-// The reading of four bytes, or 8.
+// The reading of four bytes, or 8, also for a family that does not exist.
 #[no_mangle]
 pub extern "C" fn quay_read_weight(weight: FourBytes) -> QuayReading
     ensures { λ r. ⌜ r ≡ readingOut (readOf weight) ⌝ }

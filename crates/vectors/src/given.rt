@@ -3,7 +3,10 @@
 use body::Address;
 use codes::Role;
 use libc::STDIN_FILENO;
+use weight::Family;
+use weight::FamilyNamed;
 use weight::Reading;
+use weight::family_named;
 ghost use Prim.Native.Nat.{_<_, _≤_};
 
 // The longest text, and the longest room.
@@ -84,7 +87,15 @@ pub(crate) fn take_role() -> Role {
     Role::Request
 }
 
-// Minus, four bytes of the number, point, bit 6, bit 5, settled, overload.
+// A family by its number. One that does not exist is handed in by none of the cases.
+pub(crate) fn take_family() -> Family {
+    match family_named(take_byte()) {
+        FamilyNamed::Family(family) => family,
+        FamilyNamed::Unknown => Family::Plain,
+    }
+}
+
+// Minus, four bytes of the number, point, bit 6, bit 5, settled, overload, family.
 pub(crate) fn take_reading() -> Reading {
     Reading {
         minus: take_flag(),
@@ -94,6 +105,7 @@ pub(crate) fn take_reading() -> Reading {
         bit5: take_flag(),
         settled: take_flag(),
         overload: take_flag(),
+        family: take_family(),
     }
 }
 

@@ -1,13 +1,15 @@
 // Cases of the listing.
+use crate::given::take_family;
 use crate::given::take_number;
 use crate::lines::take_event;
 use room::Written;
 
-// Body, lent room, eight bytes of the line's number, and the event.
+// Body, lent room, eight bytes of the line's number, the family, and the event.
 pub(crate) fn write_line(text: &[u8], room: &mut [u8]) -> Written {
     let number = take_number();
+    let family = take_family();
     let event = take_event();
-    listing::write_line(number, entries::heard(event, text), room)
+    listing::write_line(number, entries::heard(family, event, text), room)
 }
 
 // Lent room, and three counts of eight bytes.

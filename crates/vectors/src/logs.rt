@@ -1,5 +1,6 @@
 // Cases of log records.
 use crate::given::take_byte;
+use crate::given::take_family;
 use crate::given::take_number;
 use crate::given::take_role;
 use crate::given::take_word;
@@ -17,7 +18,7 @@ use records::Stepped;
 use room::Written;
 use weighing_log::Noted;
 
-// Eight bytes of the time, kind, address, four of the serial, status, W0 W1 W2.
+// Eight bytes of the time, kind, address, four of the serial, status, W0 W1 W2, family.
 fn take_record() -> Record {
     Record {
         time: take_number(),
@@ -28,6 +29,7 @@ fn take_record() -> Record {
         w0: take_byte(),
         w1: take_byte(),
         w2: take_byte(),
+        family: take_byte(),
     }
 }
 
@@ -38,7 +40,8 @@ fn say_record(record: Record) {
     say_number(record.serial as u64);
     say_small(record.status);
     let three = [record.w0, record.w1, record.w2];
-    say_bytes(&three)
+    say_bytes(&three);
+    say_small(record.family)
 }
 
 // Bytes; their record.
@@ -52,12 +55,13 @@ pub(crate) fn read(text: &[u8]) {
     }
 }
 
-// Body, eight bytes of the time, role and event; the record they make.
+// Body, eight bytes of the time, role, family and event; the record they make.
 pub(crate) fn heard(text: &[u8]) {
     let time = take_number();
     let role = take_role();
+    let family = take_family();
     let event = take_event();
-    match weighing_log::note(time, role, event, text) {
+    match weighing_log::note(time, role, family, event, text) {
         Noted::Nothing => say_small(0),
         Noted::Record(record) => {
             say_small(1);

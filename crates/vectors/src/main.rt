@@ -20,7 +20,7 @@ use room::Written;
 use words::say_written;
 
 // From this number on the functions write into lent room.
-const FIRST_WRITER: u8 = 26;
+const FIRST_WRITER: u8 = 27;
 
 // The functions, each under its number.
 fn tell(function: u8, text: &[u8]) {
@@ -49,17 +49,18 @@ fn tell(function: u8, text: &[u8]) {
         22 => logs::step(text),
         23 => logs::noted(),
         24 => walks::step(text),
-        _ => walks::walk(text),
+        25 => walks::walk(text),
+        _ => weights::mode(),
     }
 }
 
 // Those that write into lent room.
 fn write(function: u8, text: &[u8], room: &mut [u8]) -> Written {
     match function {
-        26 => frames::write(text, room),
-        27 => messages::write(text, room),
-        28 => logs::write(room),
-        29 => listings::write_line(text, room),
+        27 => frames::write(text, room),
+        28 => messages::write(text, room),
+        29 => logs::write(room),
+        30 => listings::write_line(text, room),
         _ => listings::write_total(room),
     }
 }

@@ -2,6 +2,7 @@
 use crate::given::part;
 use crate::given::take_address;
 use crate::given::take_byte;
+use crate::given::take_family;
 use crate::given::take_role;
 use crate::words::say_address;
 use crate::words::say_bytes;
@@ -76,15 +77,22 @@ fn say_message(message: Message, body: &[u8]) {
     say_what(what, body)
 }
 
-// Body and role; address, code, data and what they say.
+// Body, role and family; address, code, data and what they say.
 pub(crate) fn read(text: &[u8]) {
-    match message::read(take_role(), text) {
+    match message::read(take_role(), take_family(), text) {
         Received::Message(message) => say_message(message, text),
         Received::Refused(why) => say_refusal(why),
     }
 }
 
-// Data, lent room, role, address and code.
+// Data, lent room, role, family, address and code.
 pub(crate) fn write(text: &[u8], room: &mut [u8]) -> Written {
-    message::write(take_role(), take_address(), take_byte(), text, room)
+    message::write(
+        take_role(),
+        take_family(),
+        take_address(),
+        take_byte(),
+        text,
+        room,
+    )
 }

@@ -6,6 +6,7 @@ use refusal::Verdict;
 use refusal::number;
 use room::Written;
 use weight::Reading;
+use weight::family_number;
 
 fn blank() {
     io::write_all(STDOUT_FILENO, b" ");
@@ -95,11 +96,13 @@ pub(crate) fn say_address(address: Address) {
 }
 
 pub(crate) fn say_reading(reading: Reading) {
+    let family = reading.family;
     say_flag(reading.minus);
     say_number(reading.number as u64);
     say_small(reading.point);
     say_flag(reading.bit6);
     say_flag(reading.bit5);
     say_flag(reading.settled);
-    say_flag(reading.overload)
+    say_flag(reading.overload);
+    say_small(family_number(family))
 }

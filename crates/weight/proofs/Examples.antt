@@ -3,31 +3,35 @@
 use Prim.Native.Nat.{ℕ}
 use mathlib.Core.Path.{_≡_, refl}
 use mathlib.Core.Bool.{Bool, true, false}
+use mathlib.Core.List.{[], _∷_, map}
 use lib.IntN.{pos, negℤ}
 use Rattle.refusal.specs.declared.Refusal.the-variants.{FieldOutside}
 use Rattle.refusal.specs.Numbers.{numberOf}
+use Rattle.weight.specs.declared.families.Family.{Family}
+use Rattle.weight.specs.declared.families.Family.the-variants.{Plain, Of000, Of001, Of002}
 use Rattle.weight.specs.declared.FourBytes.{FourBytes}
 use Rattle.weight.specs.declared.Reading.{Reading}
 use Rattle.weight.specs.declared.Read.the-variants.{Good, Refused as NotRead}
 use Rattle.weight.specs.declared.Packed.the-variants.{Bytes, Refused as NotPacked}
 use Rattle.weight.specs.declared.Value.the-variants.{Tenths, Refused}
-use Rattle.weight.specs.Bytes.{inRange, readOf, packedOf}
+use Rattle.weight.specs.Families.{namedIn, familyNamed}
+use Rattle.weight.specs.Bytes.{inRange, readAs, readOf, packedOf}
 use Rattle.weight.specs.Tenths.{valueOf, differenceOf}
 
--- a reading without overload and with bits 6 and 5 clear: sign bit, number, point, settled
+-- a reading of 002 without overload and with bits 6 and 5 clear: sign bit, number, point, settled
 abbrev pub shown : Bool → ℕ → ℕ → Bool → Reading
 shown minus number point settled =
-    record { minus = minus; number = number; point = point; bit6 = false; bit5 = false; settled = settled; overload = false }
+    record { minus = minus; number = number; point = point; bit6 = false; bit5 = false; settled = settled; overload = false; family = Of002 }
 
 -- E3: 25.1 kg, not settled
 abbrev pub e3-reading : Reading
 e3-reading = shown false 251 1 false
 
 abbrev pub e3-bytes : FourBytes
-e3-bytes = record { w0 = 0x51; w1 = 0x02; w2 = 0x00; con = 0x01 }
+e3-bytes = record { w0 = 0x51; w1 = 0x02; w2 = 0x00; con = 0x01; family = 3 }
 
 pub e3-read : readOf e3-bytes ≡ Good e3-reading
-unfolding readOf
+unfolding readOf readAs familyNamed namedIn
 e3-read = refl
 
 pub e3-value : valueOf e3-reading ≡ Tenths (pos 251000000)
@@ -39,10 +43,10 @@ abbrev pub e4-reading : Reading
 e4-reading = shown true 5 1 true
 
 abbrev pub e4-bytes : FourBytes
-e4-bytes = record { w0 = 0x05; w1 = 0x00; w2 = 0x00; con = 0x91 }
+e4-bytes = record { w0 = 0x05; w1 = 0x00; w2 = 0x00; con = 0x91; family = 3 }
 
 pub e4-read : readOf e4-bytes ≡ Good e4-reading
-unfolding readOf
+unfolding readOf readAs familyNamed namedIn
 e4-read = refl
 
 pub e4-value : valueOf e4-reading ≡ Tenths (negℤ (pos 5000000))
@@ -71,7 +75,7 @@ pub minus-zero-value : valueOf minus-zero ≡ Tenths (pos 0)
 unfolding valueOf inRange
 minus-zero-value = refl
 
-pub minus-zero-bytes : packedOf minus-zero ≡ Bytes (record { w0 = 0x00; w1 = 0x00; w2 = 0x00; con = 0x90 })
+pub minus-zero-bytes : packedOf minus-zero ≡ Bytes (record { w0 = 0x00; w1 = 0x00; w2 = 0x00; con = 0x90; family = 3 })
 unfolding packedOf inRange
 minus-zero-bytes = refl
 
@@ -80,8 +84,8 @@ minus-zero-bytes = refl
 pub outside-is-8 : numberOf FieldOutside ≡ 8
 outside-is-8 = refl
 
-pub half-of-ten : readOf (record { w0 = 0x0A; w1 = 0x00; w2 = 0x00; con = 0x00 }) ≡ NotRead FieldOutside
-unfolding readOf
+pub half-of-ten : readOf (record { w0 = 0x0A; w1 = 0x00; w2 = 0x00; con = 0x00; family = 3 }) ≡ NotRead FieldOutside
+unfolding readOf readAs familyNamed namedIn
 half-of-ten = refl
 
 pub seven-digits : packedOf (shown false 1000000 0 true) ≡ NotPacked FieldOutside
@@ -95,3 +99,24 @@ point-of-8 = refl
 pub net-outside : differenceOf e3-reading (shown false 0 8 true) ≡ Refused FieldOutside
 unfolding differenceOf inRange
 net-outside = refl
+
+-- ---- bits 6 and 5, by the family: each reads four bytes with both set but for 002, which reserves bit 6; a number above 3 names none
+
+abbrev pub both-set : ℕ → FourBytes
+both-set number = record { w0 = 0x00; w1 = 0x00; w2 = 0x00; con = 0x60; family = number }
+
+abbrev pub with-both : Family → Reading
+with-both family =
+    record { minus = false; number = 0; point = 0; bit6 = true; bit5 = true; settled = false; overload = false; family = family }
+
+pub read-by-family :
+    map readOf (both-set 0 ∷ both-set 1 ∷ both-set 2 ∷ both-set 3 ∷ both-set 4 ∷ both-set 255 ∷ [])
+    ≡ Good (with-both Plain) ∷ Good (with-both Of000) ∷ Good (with-both Of001) ∷ NotRead FieldOutside ∷ NotRead FieldOutside ∷ NotRead FieldOutside ∷ []
+unfolding readOf readAs familyNamed namedIn
+read-by-family = refl
+
+pub packed-by-family :
+    map packedOf (with-both Plain ∷ with-both Of000 ∷ with-both Of001 ∷ with-both Of002 ∷ [])
+    ≡ Bytes (both-set 0) ∷ Bytes (both-set 1) ∷ Bytes (both-set 2) ∷ NotPacked FieldOutside ∷ []
+unfolding packedOf inRange
+packed-by-family = refl

@@ -1,3 +1,4 @@
+pub mod FamilyNumbers
 pub mod Steps
 pub mod Sizes
 pub mod Values

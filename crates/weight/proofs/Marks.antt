@@ -10,6 +10,7 @@ use lib.Arith.{digits-div, digits-mod, mod-mul}
 use lib.Dec.{eqb, lit<}
 use lib.ListN.{getD}
 use lib.Pow.{pow-pos, pow-add}
+use Rattle.weight.specs.declared.families.Family.{Family}
 use Rattle.weight.specs.declared.Reading.{Reading}
 use Rattle.weight.specs.Status.{Mark, minus, sixth, fifth, settled, overload, bitOf, marked, onAt, readingOf, statusOf}
 
@@ -27,8 +28,8 @@ with-mark mark con =
     rw (weighed (con / 2 ^ bitOf mark % 2) (2 ^ bitOf mark) (mod-lt (con / 2 ^ bitOf mark) (lit< tt)))
     (sym (mod-mul con {m = 2} {c = 2 ^ bitOf mark} (lit< tt) (pow-pos (bitOf mark))))
 
-pub status-back : (number con : ℕ) → con < 256 → statusOf (readingOf number con) ≡ con
-status-back number con h =
+pub status-back : (family : Family) (number con : ℕ) → con < 256 → statusOf (readingOf family number con) ≡ con
+status-back family number con h =
     let seven = with-mark minus con in
     let six = with-mark sixth con in
     let five = with-mark fifth con in
@@ -83,7 +84,10 @@ module _ (reading : Reading) (small : reading .point ≤ 7) where
   point-back : statusOf reading % 2 ^ 3 ≡ reading .point
   point-back = rw (split, digits-mod (number marks) {m = 8} {r = reading .point} (omega arith))
 
-  pub reading-back : readingOf (reading .number) (statusOf reading) ≡ reading
+  pub sixth-back : marked sixth (statusOf reading) ≡ reading .bit6
+  sixth-back = mark-at 3
+
+  pub reading-back : readingOf (reading .family) (reading .number) (statusOf reading) ≡ reading
   reading-back = λ i. record {
     minus = mark-at 4 i;
     number = reading .number;
@@ -92,4 +96,5 @@ module _ (reading : Reading) (small : reading .point ≤ 7) where
     bit5 = mark-at 2 i;
     settled = mark-at 1 i;
     overload = mark-at 0 i;
+    family = reading .family;
   }

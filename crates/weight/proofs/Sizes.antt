@@ -1,8 +1,8 @@
--- Shown: a inRange reading's number and point, the largest size, and that a size with its sign fits 64 bits.
--- Why: `inRange` is two tests; 10^(7 - point) is at most 10^7; a sign adds at most one to a magnitude.
+-- Shown: a inRange reading's number, point and bit 6, the largest size, and that a size with its sign fits 64 bits.
+-- Why: `inRange` is three tests; 10^(7 - point) is at most 10^7; a sign adds at most one to a magnitude.
 use Prim.Native.Nat.{ℕ, zero, suc, _*_, _-_, _^_, _<_, _≤_}
 use mathlib.Core.Path.{_≡_, refl}
-use mathlib.Core.Bool.{Bool, true, false, and-eq-true-iff}
+use mathlib.Core.Bool.{Bool, true, false, _&&_, and-eq-true-iff}
 use native.Mathlib.Nat.{mul-le-mul, pow-le-pow-right}
 use native.Mathlib.Omega.{arith}
 use lib.Dec.{leb}
@@ -12,17 +12,30 @@ use mir.Syntax.{w64}
 use mir.Val.{SFits}
 use borrow.Author.Tests.{leb-true}
 use Rattle.weight.specs.declared.Reading.{Reading}
+use Rattle.weight.specs.Families.{terminal, allowed}
 use Rattle.weight.specs.Bytes.{inRange}
 use Rattle.weight.specs.Tenths.{signed}
 
 module _ (reading : Reading) (good : inRange reading ≡ true) where
-  pub legal-number : reading .number ≤ 999999
+  abbrev sized : Bool
+  sized = leb (reading .number) 999999 && leb (reading .point) 7
+
+  abbrev clear : Bool
+  clear = allowed (terminal (reading .family) .sixth) (reading .bit6)
+
+  legal-sized : sized ≡ true
   unfolding inRange
-  legal-number = leb-true _ _ (and-eq-true-iff (leb (reading .number) 999999) (leb (reading .point) 7) .0 good .0)
+  legal-sized = and-eq-true-iff sized clear .0 good .0
+
+  pub legal-number : reading .number ≤ 999999
+  legal-number = leb-true _ _ (and-eq-true-iff (leb (reading .number) 999999) (leb (reading .point) 7) .0 legal-sized .0)
 
   pub legal-point : reading .point ≤ 7
+  legal-point = leb-true _ _ (and-eq-true-iff (leb (reading .number) 999999) (leb (reading .point) 7) .0 legal-sized .1)
+
+  pub legal-sixth : clear ≡ true
   unfolding inRange
-  legal-point = leb-true _ _ (and-eq-true-iff (leb (reading .number) 999999) (leb (reading .point) 7) .0 good .1)
+  legal-sixth = and-eq-true-iff sized clear .0 good .1
 
 -- "The largest is 9,999,990,000,000"
 pub size-le : (number point : ℕ) → number ≤ 999999 → number * 10 ^ (7 - point) ≤ 9999990000000

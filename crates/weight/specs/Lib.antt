@@ -1,4 +1,5 @@
 pub mod Digits
+pub mod Families
 pub mod Status
 pub mod Bytes
 pub mod Tenths

@@ -1,8 +1,10 @@
 -- 01, "Weight": "CON: bit 7 minus, 6 and 5 carried as two plain bits (the documents disagree on them), 4 settled, 3 overload, 2 to 0 the
--- digits after the point, 0 to 7." The layout is `bitOf` and the three bits below it. Reading and writing both use it.
+-- digits after the point, 0 to 7." What bits 6 and 5 mean, the family says (Families). The layout is `bitOf` and the three bits below it. Reading
+-- and writing both use it, for every family.
 use Prim.Native.Nat.{ℕ, _+_, _/_, _%_, _^_}
 use mathlib.Core.Bool.{Bool, true, false}
 use lib.Dec.{eqb}
+use Rattle.weight.specs.declared.families.Family.{Family}
 use Rattle.weight.specs.declared.Reading.{Reading}
 
 -- the marks of the status byte
@@ -26,9 +28,9 @@ abbrev pub onAt : Bool → ℕ → ℕ
 onAt true place = place
 onAt false place = 0
 
--- the reading of a number and a status byte
-abbrev pub readingOf : ℕ → ℕ → Reading
-readingOf number con = record {
+-- the reading of a number and a status byte, by a family
+abbrev pub readingOf : Family → ℕ → ℕ → Reading
+readingOf family number con = record {
   minus = marked minus con;
   number = number;
   point = con % 2 ^ 3;
@@ -36,6 +38,7 @@ readingOf number con = record {
   bit5 = marked fifth con;
   settled = marked settled con;
   overload = marked overload con;
+  family = family;
 }
 
 -- the status byte of a reading

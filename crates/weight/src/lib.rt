@@ -3,29 +3,40 @@ ghost use mathlib.Core.Path.{_≡_};
 ghost use mathlib.Core.Bool.{_&&_};
 ghost use Prim.Native.Nat.{_*_, _^_, _-_, _≤_, _<_};
 ghost use Rattle.weight.specs.Digits.{decimal, allDecimal, twoDigits, pairOf};
+ghost use Rattle.weight.specs.Families.{terminal, allowed};
 ghost use Rattle.weight.specs.Status.{onAt, statusOf};
-ghost use Rattle.weight.specs.Bytes.{inRange, readOf, packedOf};
+ghost use Rattle.weight.specs.Bytes.{inRange, readAs, readOf, packedOf};
 ghost use Rattle.weight.specs.Tenths.{signed, valueOf, differenceOf};
 use refusal::Refusal;
 
-// What a terminal shows: the digits as one number, where the point stands in them, and the marks of the status byte.
+mod families;
+
+pub use families::Family;
+pub use families::FamilyNamed;
+pub use families::family_named;
+pub use families::family_number;
+
+// What a terminal shows: the digits as one number, where the point stands in them, and the marks of the status byte; and whose it is.
 pub struct Reading {
     pub minus: bool, // the sign bit, also of a zero
     pub number: u32, // 0 to 999,999
     pub point: u8, // digits after the point, 0 to 7
-    pub bit6: bool, // a plain bit: the documents disagree on it
-    pub bit5: bool, // a plain bit: the documents disagree on it
+    pub bit6: bool, // what it means, the family says
+    pub bit5: bool, // what it means, the family says
     pub settled: bool,
     pub overload: bool,
+    pub family: Family, // of the terminal that shows it
 }
 
-// The four bytes of a weight, as the wire and the log have them and as they cross to another language: W0 W1 W2 CON.
+// The four bytes of a weight, as the wire and the log have them and as they cross to another language: W0 W1 W2 CON. Beside them stands the number
+// of the family by which they are read, as byte 17 of a record has it.
 #[repr(C)]
 pub struct FourBytes {
     pub w0: u8,
     pub w1: u8,
     pub w2: u8,
     pub con: u8,
+    pub family: u8,
 }
 
 // What four bytes are read as.
@@ -100,11 +111,25 @@ fn weigh(mark: bool, place: u8) -> u8
     if mark { place } else { 0 }
 }
 
-// Whether the number and the point lie in their ranges. This is asked wherever a reading is used.
+// A bit that the family reserves is 0.
+fn is_allowed(family: Family, bit6: bool) -> bool
+    ensures { λ r. ⌜ r ≡ allowed (terminal family .sixth) bit6 ⌝ }
+{
+    match family {
+        Family::Plain => true,
+        Family::Of000 => true,
+        Family::Of001 => true,
+        Family::Of002 => !bit6,
+    }
+}
+
+// Whether the number, the point and bit 6 have values that a reading may have. This is asked wherever a reading is used.
 pub fn in_range(reading: Reading) -> bool
     ensures { λ r. ⌜ r ≡ inRange reading ⌝ }
 {
-    (reading.number <= LARGEST_NUMBER) & (reading.point <= LARGEST_POINT)
+    let family = reading.family;
+    let allowed = is_allowed(family, reading.bit6);
+    (reading.number <= LARGEST_NUMBER) & (reading.point <= LARGEST_POINT) & allowed
 }
 
 // Refusal 8 of either reading comes before anything else that a value may be refused for.
@@ -120,9 +145,9 @@ fn status(reading: Reading) -> u8
     ensures { λ r. ⌜ r ≡ statusOf reading ⌝ }
 {
     let sign = weigh(reading.minus, MINUS);
-    let plain = weigh(reading.bit6, BIT6) + weigh(reading.bit5, BIT5);
+    let by_family = weigh(reading.bit6, BIT6) + weigh(reading.bit5, BIT5);
     let state = weigh(reading.settled, SETTLED) + weigh(reading.overload, OVERLOAD);
-    sign + plain + state + reading.point
+    sign + by_family + state + reading.point
 }
 
 // Tenths of a milligram in the last digit of a reading.
@@ -158,26 +183,38 @@ fn with_sign(minus: bool, size: u64) -> i64
     if minus { -tenths } else { tenths }
 }
 
-// Reads four bytes.
-pub fn read_bytes(bytes: FourBytes) -> Read
-    ensures { λ r. ⌜ r ≡ readOf bytes ⌝ }
+// Reads four bytes of a terminal of a family.
+fn read_as(family: Family, bytes: FourBytes) -> Read
+    ensures { λ r. ⌜ r ≡ readAs family bytes ⌝ }
 {
-    if are_decimal(bytes.w0, bytes.w1, bytes.w2) {
+    let con = bytes.con;
+    let bit6 = con / BIT6 % 2 == 1;
+    if are_decimal(bytes.w0, bytes.w1, bytes.w2) & is_allowed(family, bit6) {
         let number = two_digits(bytes.w2) * 10000
             + two_digits(bytes.w1) * 100
             + two_digits(bytes.w0);
-        let con = bytes.con;
         Read::Good(Reading {
             minus: con / MINUS % 2 == 1,
             number,
             point: con % POINTS,
-            bit6: con / BIT6 % 2 == 1,
+            bit6,
             bit5: con / BIT5 % 2 == 1,
             settled: con / SETTLED % 2 == 1,
             overload: con / OVERLOAD % 2 == 1,
+            family,
         })
     } else {
         Read::Refused(Refusal::FieldOutside)
+    }
+}
+
+// Reads four bytes by the family whose number stands beside them. A number that names no family is refused by 8.
+pub fn read_bytes(bytes: FourBytes) -> Read
+    ensures { λ r. ⌜ r ≡ readOf bytes ⌝ }
+{
+    match family_named(bytes.family) {
+        FamilyNamed::Family(family) => read_as(family, bytes),
+        FamilyNamed::Unknown => Read::Refused(Refusal::FieldOutside),
     }
 }
 
@@ -187,11 +224,13 @@ pub fn to_bytes(reading: Reading) -> Packed
 {
     if in_range(reading) {
         let number = reading.number;
+        let family = reading.family;
         Packed::Bytes(FourBytes {
             w0: pair(number),
             w1: pair(number / 100),
             w2: pair(number / 10000),
             con: status(reading),
+            family: family_number(family),
         })
     } else {
         Packed::Refused(Refusal::FieldOutside)

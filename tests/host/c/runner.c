@@ -21,8 +21,8 @@ static QuayEvent take_event(struct inputs *in)
 
 static QuayWeight take_weight(struct inputs *in)
 {
-    struct lent four = take_exactly(in, 4, true);
-    return (QuayWeight){.w0 = four.bytes[0], .w1 = four.bytes[1], .w2 = four.bytes[2], .con = four.bytes[3]};
+    struct lent five = take_exactly(in, 5, true);
+    return (QuayWeight){.w0 = five.bytes[0], .w1 = five.bytes[1], .w2 = five.bytes[2], .con = five.bytes[3], .family = five.bytes[4]};
 }
 
 static void say_room(struct answer *out, struct lent room)
@@ -40,12 +40,13 @@ static void say_record(struct answer *out, QuayRecord item)
 {
     SAY_NUMBERS(out, item.refusal, item.time, item.kind, item.address, item.serial, item.status);
     say_bytes(out, (uint8_t[]){item.w0, item.w1, item.w2}, 3);
+    say_number(out, item.family);
 }
 
 static void say_what(struct answer *out, QuayWhat what)
 {
     SAY_NUMBERS(out, what.says, what.number, what.on, what.load);
-    say_bytes(out, (uint8_t[]){what.weight.w0, what.weight.w1, what.weight.w2, what.weight.con}, 4);
+    say_bytes(out, (uint8_t[]){what.weight.w0, what.weight.w1, what.weight.w2, what.weight.con, what.weight.family}, 5);
     SAY_NUMBERS(out, what.from, what.to);
 }
 
@@ -84,19 +85,21 @@ static void write_frame(struct inputs *in, struct answer *out)
 static void write_message(struct inputs *in, struct answer *out)
 {
     uint8_t role = take_byte(in);
+    uint8_t family = take_byte(in);
     uint8_t short_address = take_byte(in);
     uint32_t serial = (uint32_t)take_number(in, UINT32_MAX);
     uint8_t code = take_byte(in);
     struct lent data = take_bytes(in, true);
     struct lent room = take_bytes(in, false);
-    say_written(out, quay_write_message(role, short_address, serial, code, data.bytes, data.length, room.bytes, room.length), room);
+    say_written(out, quay_write_message(role, family, short_address, serial, code, data.bytes, data.length, room.bytes, room.length), room);
 }
 
 static void read_message(struct inputs *in, struct answer *out)
 {
     uint8_t role = take_byte(in);
+    uint8_t family = take_byte(in);
     struct lent body = take_bytes(in, true);
-    QuayMessage message = quay_read_message(role, body.bytes, body.length);
+    QuayMessage message = quay_read_message(role, family, body.bytes, body.length);
     SAY_NUMBERS(out, message.refusal, message.short_address, message.serial, message.code, message.from, message.to);
     say_what(out, message.what);
 }
@@ -105,7 +108,7 @@ static void read_weight(struct inputs *in, struct answer *out)
 {
     QuayReading reading = quay_read_weight(take_weight(in));
     SAY_NUMBERS(out, reading.refusal, reading.number, reading.point, reading.minus, reading.bit6, reading.bit5, reading.settled,
-                reading.overload);
+                reading.overload, reading.family);
 }
 
 static void value(struct inputs *in, struct answer *out)
@@ -144,6 +147,7 @@ static void write_record(struct inputs *in, struct answer *out)
     item.w0 = digits.bytes[0];
     item.w1 = digits.bytes[1];
     item.w2 = digits.bytes[2];
+    item.family = take_byte(in);
     item.refusal = take_byte(in);
     struct lent room = take_bytes(in, false);
     say_written(out, quay_write_record(item, room.bytes, room.length), room);
@@ -167,18 +171,20 @@ static void record_heard(struct inputs *in, struct answer *out)
 {
     uint64_t time = take_number(in, UINT64_MAX);
     uint8_t role = take_byte(in);
+    uint8_t family = take_byte(in);
     QuayEvent event = take_event(in);
     struct lent body = take_bytes(in, true);
-    say_record(out, quay_record_heard(time, role, event, body.bytes, body.length));
+    say_record(out, quay_record_heard(time, role, family, event, body.bytes, body.length));
 }
 
 static void list_event(struct inputs *in, struct answer *out)
 {
     uint64_t number = take_number(in, UINT64_MAX);
+    uint8_t family = take_byte(in);
     QuayEvent event = take_event(in);
     struct lent body = take_bytes(in, true);
     struct lent room = take_bytes(in, false);
-    QuayListed listed = quay_list_event(number, event, body.bytes, body.length, room.bytes, room.length);
+    QuayListed listed = quay_list_event(number, family, event, body.bytes, body.length, room.bytes, room.length);
     SAY_NUMBERS(out, listed.refusal, listed.length, listed.entry);
     say_room(out, room);
 }

@@ -1,8 +1,13 @@
-/* Fourteen wrong libraries, to see that the cases see each: linked ahead of libquay.a, and the environment variable QUAY_WRONG names the
- * one function that answers wrongly. Most of them make the mistake that must never happen: what was refused looks like a weight of nothing. */
+/* Wrong libraries, to see that the cases see each: linked ahead of libquay.a, and the environment variable QUAY_WRONG names the one function that
+ * answers wrongly. Most of them make the mistake that must never happen: what was refused looks like a weight of nothing. A word behind the name says
+ * that the function is wrong about the family instead:
+ *   unknown    a family that does not exist passes for plain
+ *   unjudged   002 passes for 000, whose bit 6 is free
+ *   lost       the family that is told is plain */
 #include "quay.h"
 
 #include <stdbool.h>
+#include <stdio.h>
 #include <stdlib.h>
 #include <string.h>
 
@@ -16,6 +21,34 @@ static bool is_wrong(const char *name)
 {
     const char *wrong = getenv("QUAY_WRONG");
     return wrong != NULL && strcmp(wrong, name) == 0;
+}
+
+/* Whether the function is wrong in this way about the family. */
+static bool is_wrong_of_family(const char *name, const char *way)
+{
+    char both[64];
+    snprintf(both, sizeof both, "%s %s", name, way);
+    return is_wrong(both);
+}
+
+static uint8_t family_taken(const char *name, uint8_t family)
+{
+    if (family > QUAY_FAMILY_002 && is_wrong_of_family(name, "unknown"))
+        return QUAY_FAMILY_PLAIN;
+    if (family == QUAY_FAMILY_002 && is_wrong_of_family(name, "unjudged"))
+        return QUAY_FAMILY_000;
+    return family;
+}
+
+static uint8_t family_told(const char *name, uint8_t family)
+{
+    return is_wrong_of_family(name, "lost") ? QUAY_FAMILY_PLAIN : family;
+}
+
+static QuayWeight weight_taken(const char *name, QuayWeight weight)
+{
+    weight.family = family_taken(name, weight.family);
+    return weight;
 }
 
 /* The last of the lent bytes is cleared, though nothing was kept there. */
@@ -38,33 +71,35 @@ WRAPPED(QuayWritten, write_frame, uint8_t short_address, uint32_t serial, uint8_
 }
 
 /* Any role but a request passes for a reply. */
-WRAPPED(QuayWritten, write_message, uint8_t role, uint8_t short_address, uint32_t serial, uint8_t code, const uint8_t *data, size_t length,
-        uint8_t *room, size_t room_length)
+WRAPPED(QuayWritten, write_message, uint8_t role, uint8_t family, uint8_t short_address, uint32_t serial, uint8_t code, const uint8_t *data,
+        size_t length, uint8_t *room, size_t room_length)
 {
     uint8_t taken = is_wrong("write_message") && role > QUAY_REPLY ? QUAY_REPLY : role;
-    return __real_quay_write_message(taken, short_address, serial, code, data, length, room, room_length);
+    return __real_quay_write_message(taken, family_taken("write_message", family), short_address, serial, code, data, length, room, room_length);
 }
 
 /* A message that was refused has a weight of nothing. */
-WRAPPED(QuayMessage, read_message, uint8_t role, const uint8_t *body, size_t length)
+WRAPPED(QuayMessage, read_message, uint8_t role, uint8_t family, const uint8_t *body, size_t length)
 {
-    QuayMessage message = __real_quay_read_message(role, body, length);
+    QuayMessage message = __real_quay_read_message(role, family_taken("read_message", family), body, length);
     if (is_wrong("read_message") && message.refusal != 0)
-        message.what.weight = (QuayWeight){0, 0, 0, 0};
+        message.what.weight = (QuayWeight){0, 0, 0, 0, QUAY_FAMILY_PLAIN};
+    message.what.weight.family = family_told("read_message", message.what.weight.family);
     return message;
 }
 
 WRAPPED(QuayReading, read_weight, QuayWeight weight)
 {
-    QuayReading reading = __real_quay_read_weight(weight);
+    QuayReading reading = __real_quay_read_weight(weight_taken("read_weight", weight));
     if (is_wrong("read_weight") && reading.refusal != 0)
         reading.number = 0;
+    reading.family = family_told("read_weight", reading.family);
     return reading;
 }
 
 WRAPPED(QuayValue, value, QuayWeight weight)
 {
-    QuayValue value = __real_quay_value(weight);
+    QuayValue value = __real_quay_value(weight_taken("value", weight));
     if (is_wrong("value") && value.refusal != 0)
         value.value = 0;
     return value;
@@ -73,7 +108,7 @@ WRAPPED(QuayValue, value, QuayWeight weight)
 /* A net that was refused is taken for nothing. */
 WRAPPED(QuayValue, difference, QuayWeight gross, QuayWeight net)
 {
-    QuayValue value = __real_quay_difference(gross, net);
+    QuayValue value = __real_quay_difference(weight_taken("difference", gross), weight_taken("difference", net));
     if (is_wrong("difference") && value.refusal != 0)
         value = __real_quay_value(gross);
     return value;
@@ -82,7 +117,7 @@ WRAPPED(QuayValue, difference, QuayWeight gross, QuayWeight net)
 /* Minus nothing is minus zero. */
 WRAPPED(QuayKilograms, kilograms, QuayWeight weight)
 {
-    QuayKilograms weighed = __real_quay_kilograms(weight);
+    QuayKilograms weighed = __real_quay_kilograms(weight_taken("kilograms", weight));
     if (is_wrong("kilograms") && weighed.kilograms == 0 && (weight.con & 0x80) != 0)
         weighed.kilograms = -0.0;
     return weighed;
@@ -93,13 +128,16 @@ WRAPPED(QuayWritten, write_record, QuayRecord item, uint8_t *room, size_t length
 {
     if (is_wrong("write_record"))
         item.refusal = 0;
+    item.family = family_taken("write_record", item.family);
     return __real_quay_write_record(item, room, length);
 }
 
 /* Twenty bytes are read of more. */
 WRAPPED(QuayRecord, read_record, const uint8_t *bytes, size_t length)
 {
-    return __real_quay_read_record(bytes, is_wrong("read_record") && length > QUAY_RECORD_BYTES ? QUAY_RECORD_BYTES : length);
+    QuayRecord item = __real_quay_read_record(bytes, is_wrong("read_record") && length > QUAY_RECORD_BYTES ? QUAY_RECORD_BYTES : length);
+    item.family = family_told("read_record", item.family);
+    return item;
 }
 
 /* At the end the place is the log's length. */
@@ -108,24 +146,27 @@ WRAPPED(QuayStepped, step, const uint8_t *log, size_t length, size_t place)
     QuayStepped stepped = __real_quay_step(log, length, place);
     if (is_wrong("step") && place >= length)
         stepped.next = length;
+    stepped.item.family = family_told("step", stepped.item.family);
     return stepped;
 }
 
 /* A refusal that was met crosses with the zeros that its record has on disk. */
-WRAPPED(QuayRecord, record_heard, uint64_t time, uint8_t role, QuayEvent event, const uint8_t *body, size_t length)
+WRAPPED(QuayRecord, record_heard, uint64_t time, uint8_t role, uint8_t family, QuayEvent event, const uint8_t *body, size_t length)
 {
-    QuayRecord item = __real_quay_record_heard(time, role, event, body, length);
+    QuayRecord item = __real_quay_record_heard(time, role, family_taken("record_heard", family), event, body, length);
     if (is_wrong("record_heard") && item.kind == QUAY_RECORD_REFUSED)
         item.w0 = item.w1 = item.w2 = 0;
+    item.family = family_told("record_heard", item.family);
     return item;
 }
 
 /* Stale bytes are read as the body's. */
-WRAPPED(QuayListed, list_event, uint64_t number, QuayEvent event, const uint8_t *body, size_t length, uint8_t *room, size_t room_length)
+WRAPPED(QuayListed, list_event, uint64_t number, uint8_t family, QuayEvent event, const uint8_t *body, size_t length, uint8_t *room,
+        size_t room_length)
 {
     if (is_wrong("list_event"))
         event.kept = length;
-    return __real_quay_list_event(number, event, body, length, room, room_length);
+    return __real_quay_list_event(number, family_taken("list_event", family), event, body, length, room, room_length);
 }
 
 /* A byte behind the line is cleared. */

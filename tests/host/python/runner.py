@@ -51,11 +51,12 @@ class Room:
 # ---- what each function answers, in the order of the case lines
 
 def record_words(item: quay.QuayRecord) -> Answer:
-    return item.refusal, item.time, item.kind, item.address, item.serial, item.status, bytes((item.w0, item.w1, item.w2))
+    digits = bytes((item.w0, item.w1, item.w2))
+    return item.refusal, item.time, item.kind, item.address, item.serial, item.status, digits, item.family
 
 
-def weight_of(four: bytes) -> quay.QuayWeight:
-    return quay.QuayWeight(*four)
+def weight_of(five: bytes) -> quay.QuayWeight:
+    return quay.QuayWeight(*five)
 
 
 def listen(phase: int, wire: int, kept: int, body: bytes, block: bytes) -> Answer:
@@ -72,26 +73,26 @@ def write_frame(short: int, serial: int, code: int, data: bytes, room: bytes) ->
     return written.refusal, written.length, lent.left()
 
 
-def write_message(role: int, short: int, serial: int, code: int, data: bytes, room: bytes) -> Answer:
+def write_message(role: int, family: int, short: int, serial: int, code: int, data: bytes, room: bytes) -> Answer:
     lent = Room(room)
-    written = quay.library().quay_write_message(role, short, serial, code, data, len(data), lent.buffer, lent.length)
+    written = quay.library().quay_write_message(role, family, short, serial, code, data, len(data), lent.buffer, lent.length)
     return written.refusal, written.length, lent.left()
 
 
-def read_message(role: int, body: bytes) -> Answer:
-    message = quay.library().quay_read_message(role, body, len(body))
+def read_message(role: int, family: int, body: bytes) -> Answer:
+    message = quay.library().quay_read_message(role, family, body, len(body))
     what = message.what
     return (message.refusal, message.short, message.serial, message.code, message.from_, message.to,
             what.says, what.number, what.on, what.load, bytes(what.weight), what.from_, what.to)
 
 
-def read_weight(four: bytes) -> Answer:
-    shown = quay.library().quay_read_weight(weight_of(four))
-    return (shown.refusal, shown.number, shown.point, shown.minus, shown.bit6, shown.bit5, shown.settled, shown.overload)
+def read_weight(five: bytes) -> Answer:
+    shown = quay.library().quay_read_weight(weight_of(five))
+    return (shown.refusal, shown.number, shown.point, shown.minus, shown.bit6, shown.bit5, shown.settled, shown.overload, shown.family)
 
 
-def value(four: bytes) -> Answer:
-    answer = quay.library().quay_value(weight_of(four))
+def value(five: bytes) -> Answer:
+    answer = quay.library().quay_value(weight_of(five))
     return answer.refusal, answer.value
 
 
@@ -100,16 +101,16 @@ def difference(gross: bytes, net: bytes) -> Answer:
     return answer.refusal, answer.value
 
 
-def kilograms(four: bytes) -> Answer:
-    answer = quay.library().quay_kilograms(weight_of(four))
+def kilograms(five: bytes) -> Answer:
+    answer = quay.library().quay_kilograms(weight_of(five))
     weighed = answer.kilograms
     return answer.refusal, 'nan' if weighed != weighed else struct.pack('>d', weighed)
 
 
 def write_record(
-        time: int, kind: int, address: int, serial: int, status: int, digits: bytes, carried: int, room: bytes) -> Answer:
+        time: int, kind: int, address: int, serial: int, status: int, digits: bytes, family: int, carried: int, room: bytes) -> Answer:
     lent = Room(room)
-    item = quay.QuayRecord(time, serial, kind, address, status, *digits, carried)
+    item = quay.QuayRecord(time, serial, kind, address, status, *digits, family, carried)
     written = quay.library().quay_write_record(item, lent.buffer, lent.length)
     return written.refusal, written.length, lent.left()
 
@@ -123,15 +124,15 @@ def step(log: bytes, place: int) -> Answer:
     return (*record_words(stepped.item), stepped.next)
 
 
-def record_heard(time: int, role: int, kind: int, refusal: int, wire: int, kept: int, body: bytes) -> Answer:
+def record_heard(time: int, role: int, family: int, kind: int, refusal: int, wire: int, kept: int, body: bytes) -> Answer:
     event = quay.QuayEvent(wire, kept, kind, refusal)
-    return record_words(quay.library().quay_record_heard(time, role, event, body, len(body)))
+    return record_words(quay.library().quay_record_heard(time, role, family, event, body, len(body)))
 
 
-def list_event(number: int, kind: int, refusal: int, wire: int, kept: int, body: bytes, room: bytes) -> Answer:
+def list_event(number: int, family: int, kind: int, refusal: int, wire: int, kept: int, body: bytes, room: bytes) -> Answer:
     lent = Room(room)
     event = quay.QuayEvent(wire, kept, kind, refusal)
-    listed = quay.library().quay_list_event(number, event, body, len(body), lent.buffer, lent.length)
+    listed = quay.library().quay_list_event(number, family, event, body, len(body), lent.buffer, lent.length)
     return listed.refusal, listed.length, listed.entry, lent.left()
 
 
@@ -166,23 +167,24 @@ def bytes_of(length: int) -> Callable[[str], bytes]:
     return read
 
 
-U8, U32, U64, WEIGHT, DIGITS = number_of(8), number_of(32), number_of(64), bytes_of(4), bytes_of(3)
+U8, U32, U64, DIGITS = number_of(8), number_of(32), number_of(64), bytes_of(3)
+WEIGHT = bytes_of(5)  # W0 W1 W2 CON, and the family
 EVENT = (U8, U8, U64, U64)  # kind, refusal, wire, kept
 
 FORMS: Dict[str, Tuple[Callable[..., Answer], Tuple[Callable[[str], Input], ...]]] = {
     'listen': (listen, (U8, U64, U64, bytes_of(quay.BODY_BYTES), any_bytes)),
     'write_frame': (write_frame, (U8, U32, U8, any_bytes, any_bytes)),
-    'write_message': (write_message, (U8, U8, U32, U8, any_bytes, any_bytes)),
-    'read_message': (read_message, (U8, any_bytes)),
+    'write_message': (write_message, (U8, U8, U8, U32, U8, any_bytes, any_bytes)),
+    'read_message': (read_message, (U8, U8, any_bytes)),
     'read_weight': (read_weight, (WEIGHT,)),
     'value': (value, (WEIGHT,)),
     'difference': (difference, (WEIGHT, WEIGHT)),
     'kilograms': (kilograms, (WEIGHT,)),
-    'write_record': (write_record, (U64, U8, U8, U32, U8, DIGITS, U8, any_bytes)),
+    'write_record': (write_record, (U64, U8, U8, U32, U8, DIGITS, U8, U8, any_bytes)),
     'read_record': (read_record, (any_bytes,)),
     'step': (step, (any_bytes, U64)),
-    'record_heard': (record_heard, (U64, U8, *EVENT, any_bytes)),
-    'list_event': (list_event, (U64, *EVENT, any_bytes, any_bytes)),
+    'record_heard': (record_heard, (U64, U8, U8, *EVENT, any_bytes)),
+    'list_event': (list_event, (U64, U8, *EVENT, any_bytes, any_bytes)),
     'list_total': (list_total, (U64, U64, U64, any_bytes)),
 }
 

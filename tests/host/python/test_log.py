@@ -12,16 +12,18 @@ from unittest import mock
 
 import binding
 import example
+import listing as model_listing  # the second model's
 import quay
-from test_quay import E1, E3, E4, E6, NO_WEIGHT, RefusedCase, heard
+from test_quay import E1, E3, E4, E6, FAMILY, NO_WEIGHT, RefusedCase, heard
 
-HEAVY = quay.Weighing(1000, quay.Load.GROSS, quay.Address(1), quay.Weight(0x51, 0x02, 0, 0x01))
-LIGHT = quay.Weighing(2**64 - 1, quay.Load.NET, quay.Address(serial=70501), quay.Weight(0, 0, 0, 0x98))
+HEAVY = quay.Weighing(1000, quay.Load.GROSS, quay.Address(1), quay.Weight(0x51, 0x02, 0, 0x01, FAMILY))
+LIGHT = quay.Weighing(2**64 - 1, quay.Load.NET, quay.Address(serial=70501), quay.Weight(0, 0, 0, 0xB8, quay.Family.OF_001))
 UNREAD = quay.RefusalMet(1001, 4)
 RECORDS = (HEAVY, UNREAD, LIGHT)
 LOG = b''.join(quay.write_record(record) for record in RECORDS)
 BROKEN = bytes(8) + b'\x01\x01' + bytes(3) + b'\x10' + b'\xff\xff\xff' + bytes(3)
-WEIGHT_KEYS = ('address', 'serial', 'value', 'kilograms', 'kilograms_exact', 'sign', 'digits', 'point', 'settled', 'overload')
+WEIGHT_KEYS = ('address', 'serial', 'value', 'kilograms', 'kilograms_exact', 'sign', 'digits', 'point', 'settled', 'overload', 'family',
+               'mode')
 
 
 class Records(RefusedCase):
@@ -29,7 +31,7 @@ class Records(RefusedCase):
         high = [quay.Weighing(0, quay.Load.NET, quay.Address(short), HEAVY.weight) for short in (0x9F, 0xA0, 0xA4, 0xF0, 0xFD)]
         for record in (*RECORDS, *high):
             self.assertEqual(quay.read_record(quay.write_record(record)), record)
-        self.assertEqual(quay.write_record(HEAVY).hex(), 'e803000000000000' + '0101000000' + '01' + '510200' + '000000')
+        self.assertEqual(quay.write_record(HEAVY).hex(), 'e803000000000000' + '0101000000' + '01' + '510200' + '030000')
 
     def test_a_record_that_breaks_a_rule_is_not_written(self) -> None:
         gross, weight = quay.Load.GROSS, HEAVY.weight
@@ -56,14 +58,14 @@ class Records(RefusedCase):
         self.assertEqual(told, [HEAVY, quay.RefusalMet(1000, 4), quay.RefusalMet(1000, 7)])
         asked, = heard([E1])
         self.assertIsNone(quay.record_heard(1000, asked, quay.Role.REQUEST))
-        serial, = heard([quay.write_message(quay.Role.REPLY, quay.Address(1), 0xA1, bytes(3))])
+        serial, = heard([quay.write_message(quay.Role.REPLY, FAMILY, quay.Address(1), 0xA1, bytes(3))])
         self.assertIsNone(quay.record_heard(1000, serial))
 
     def test_an_event_that_is_none(self) -> None:
         self.refused(8, quay.record_heard, 0, quay.LineRefusal(77, 0, 0))
         with self.assertRaises(ValueError):
             quay.record_heard(0, quay.LineRefusal(256 + 4, 0, 0))
-        damaged = quay.Frame(10, 7, bytes.fromhex('01c351020001dd'))
+        damaged = quay.Frame(10, 7, bytes.fromhex('01c351020001dd'), FAMILY)
         self.assertEqual(quay.record_heard(5, damaged), quay.RefusalMet(5, 4))
 
 
@@ -74,9 +76,10 @@ class Rows(RefusedCase):
         heavy, unread, light = quay.rows(LOG)
         self.assertEqual(heavy, {
             'time': 1000, 'kind': 'gross', 'refusal': None, 'address': 1, 'serial': None, 'value': 251_000_000, 'kilograms': 25.1,
-            'kilograms_exact': Fraction(251, 10), 'sign': '+', 'digits': '000251', 'point': 1, 'settled': False, 'overload': False})
-        shown = ('time', 'kind', 'address', 'serial', 'value', 'sign', 'settled', 'overload')
-        self.assertEqual([light[key] for key in shown], [2**64 - 1, 'net', None, 70501, 0, '-', True, True])
+            'kilograms_exact': Fraction(251, 10), 'sign': '+', 'digits': '000251', 'point': 1, 'settled': False, 'overload': False,
+            'family': '002', 'mode': 'gross'})
+        shown = ('time', 'kind', 'address', 'serial', 'value', 'sign', 'settled', 'overload', 'family', 'mode')
+        self.assertEqual([light[key] for key in shown], [2**64 - 1, 'net', None, 70501, 0, '-', True, True, '001', 'scale1'])
         self.assertEqual((unread['time'], unread['kind'], unread['refusal']), (1001, 'refusal', 4))
 
     def test_every_row_has_the_same_keys(self) -> None:
@@ -107,6 +110,7 @@ class Rows(RefusedCase):
         import pandas
         table = pandas.DataFrame(quay.rows(LOG))
         self.assertEqual(list(table['value'].isna()), [False, True, False])
+        self.assertEqual(list(table['mode'].isna()), [False, True, False])
         sums = table.groupby('kind')['kilograms'].sum(min_count=1)
         self.assertEqual((sums['gross'], sums['net'], pandas.isna(sums['refusal'])), (25.1, 0, True))
         unread = pandas.DataFrame(quay.rows(quay.write_record(UNREAD)))
@@ -117,14 +121,15 @@ class TheListing(RefusedCase):
     def test_the_papers_listing(self) -> None:
         listed = [quay.list_event(number, event) for number, event in enumerate(heard([E3 + E4 + E6]), start=1)]
         self.assertEqual([one.line for one in listed], [
-            '1 weight gross 1 + 000251 1 0 0\n', '2 weight net 1 - 000005 1 1 0\n', '3 refused 4\n'])
+            '1 weight gross 1 + 000251 1 0 0 gross\n', '2 weight net 1 - 000005 1 1 0 gross\n', '3 refused 4\n'])
         self.assertEqual([one.entry for one in listed], [quay.Entry.WEIGHT, quay.Entry.WEIGHT, quay.Entry.REFUSAL])
 
     def test_the_longest_lines_have_room(self) -> None:
         most = 2**64 - 1
         self.assertEqual(quay.list_total(most, most, most), f'total {most} weights {most} refused {most}\n')
-        frame, = heard([quay.write_message(quay.Role.REPLY, quay.Address(serial=2**24 - 1), 0xC3, b'\x99\x99\x99\x97')])
-        self.assertEqual(quay.list_event(most, frame).line, f'{most} weight gross 0:16777215 - 999999 7 1 0\n')
+        family, address = quay.Family.OF_001, quay.Address(serial=2**24 - 1)
+        frame, = heard([quay.write_message(quay.Role.REPLY, family, address, 0xC3, b'\x99\x99\x99\xb7')], family)
+        self.assertEqual(quay.list_event(most, frame).line, f'{most} weight gross 0:16777215 - 999999 7 1 0 scale1\n')
 
     def test_numbers_that_cannot_cross(self) -> None:
         for number in (-1, 2**64):
@@ -167,6 +172,29 @@ class TheExample(unittest.TestCase):
                 wanted.append((time, *(('refusal', int(rest[0])) if kind == 'refused' else (rest[0], rest[3]))))
         told = [(row['time'], row['kind'], row['digits'] if row['refusal'] is None else row['refusal']) for row in rows]
         self.assertEqual(told, wanted)
+
+    def test_each_family_has_its_own_listing_and_log(self) -> None:
+        fours = [bytes((0x51, 0x02, 0x00, con)) for con in (0x01, 0x21, 0x41, 0x61)]
+        wire = b''.join(quay.write_frame(quay.Address(1), code, four) for code in (0xC2, 0xC3) for four in fours)
+        capture = self.log + '.capture'
+        with open(capture, 'wb') as made:
+            made.write(wire)
+        for word, family in example.FAMILIES.items():
+            log = f'{self.log}.{word}'
+            wanted = model_listing.listing_of(int(family), wire).decode()
+            self.assertEqual(self.run_example(capture, '--family', word, '--log', log), (0, wanted, ''))
+            with open(log, 'rb') as noted:
+                told = [(row['family'], row['mode']) for row in quay.rows(noted.read())]
+            lines = [line.split() for line in wanted.splitlines()[:-1]]
+            self.assertEqual(told, [(None, None) if words[1] == 'refused' else (word, words[-1]) for words in lines])
+        self.assertEqual(self.run_example(capture), self.run_example(capture, '--family', '002'))
+        self.assertNotEqual(self.run_example(capture), self.run_example(capture, '--family', '000'))
+
+    def test_a_family_that_is_none_is_not_taken(self) -> None:
+        self.assertEqual(sorted(example.FAMILIES), ['000', '001', '002'])
+        for wrong in ('003', 'plain', '3', ''):
+            with contextlib.redirect_stderr(io.StringIO()), self.assertRaises(SystemExit):
+                example.main([self.capture, '--family', wrong])
 
     def test_what_cannot_be_opened_is_said_and_has_no_total(self) -> None:
         for wrong in ('/nowhere/morning.capture', binding.SAMPLES):

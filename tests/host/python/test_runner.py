@@ -10,7 +10,7 @@ from typing import Dict, Iterator, List
 import binding  # noqa: F401 (puts the runner's folder on the path)
 import runner
 
-GOOD = 'value 51020001 = 0 251000000'
+GOOD = 'value 5102000103 = 0 251000000'
 
 
 def run(*lines: str) -> tuple:
@@ -56,13 +56,14 @@ class TheRunner(unittest.TestCase):
                 self.assertRegex(said, f'^line 2: {name}: wanted .*, given .*\n2 cases, 1 differ\n$')
 
     def test_ten_differences_are_shown_and_all_are_counted(self) -> None:
-        status, said = run(*['value 51020001 = 0 0'] * 12)
+        status, said = run(*['value 5102000103 = 0 0'] * 12)
         self.assertEqual((status, said.count('\n'), said.splitlines()[-1]), (1, 11, '12 cases, 12 differ'))
 
     def test_a_line_that_is_no_case_ends_the_run(self) -> None:
-        wrong = ['', 'weigh 51020001 = 0', 'value 51020001 0 251000000', 'value 5102000 = 0 0', 'value 510200FF = 0 0',
-                 'value 51020001 7 = 0 251000000', 'value  51020001 = 0 251000000', 'value 51020001 = 0', 'value 51020001 = 0 x',
-                 'step - 18446744073709551616 = 0', 'step - -1 = 0', 'step - 01 = 0', 'list_total 1 2 = 0']
+        wrong = ['', 'weigh 5102000103 = 0', 'value 5102000103 0 251000000', 'value 510200010 = 0 0', 'value 510200FF03 = 0 0',
+                 'value 51020001 = 0 251000000', 'value 5102000103 7 = 0 251000000', 'value  5102000103 = 0 251000000',
+                 'value 5102000103 = 0', 'value 5102000103 = 0 x', 'step - 18446744073709551616 = 0', 'step - -1 = 0',
+                 'step - 01 = 0', 'list_total 1 2 = 0']
         for line in wrong:
             status, said = run(GOOD, line, GOOD)
             self.assertEqual((status, said.startswith('line 2: '), 'cases' in said), (1, True, False), line)

@@ -6,14 +6,18 @@ fn main() {
     ask(&mut |bytes| sent.extend_from_slice(bytes)).expect("the request is a message");
     assert_eq!(sent, [0xFF, 0x01, 0xC3, 0xE3, 0xFF, 0xFF]); // E1 of the rules paper
 
-    // E3, cut in two, and a frame whose check is wrong (E6).
-    let blocks: [&[u8]; 2] =
-        [&[0xFF, 0x01, 0xC3, 0x51, 0x02], &[0x00, 0x01, 0xDE, 0xFF, 0xFF, 0xFF, 0x01, 0xC3, 0xE2, 0xFF, 0xFF]];
+    // E3, cut in two, and a frame whose check is wrong (E6); the weight of E3 with bit 6 set, which 002 refuses.
+    let blocks: [&[u8]; 3] = [
+        &[0xFF, 0x01, 0xC3, 0x51, 0x02],
+        &[0x00, 0x01, 0xDE, 0xFF, 0xFF, 0xFF, 0x01, 0xC3, 0xE2, 0xFF, 0xFF],
+        &[0xFF, 0x01, 0xC3, 0x51, 0x02, 0x00, 0x41, 0x30, 0xFF, 0xFF],
+    ];
     let mut reader = Reader::new();
     let mut log = Vec::new();
     for block in blocks {
         hear(&mut reader, block, 1000, &mut |bytes| log.extend_from_slice(bytes)).expect("every event makes its record");
     }
-    assert_eq!(log.len(), 2 * quay::RECORD_LENGTH);
-    assert_eq!([log[8], log[quay::RECORD_LENGTH + 8]], [1, 3]); // a gross weight, and a refusal
+    // Kind, status and family: a gross weight of 002, a wrong check, a field outside its values.
+    let noted: Vec<[u8; 3]> = log.chunks(quay::RECORD_LENGTH).map(|record| [record[8], record[13], record[17]]).collect();
+    assert_eq!(noted, [[1, 1, 3], [3, 4, 0], [3, 8, 0]]);
 }

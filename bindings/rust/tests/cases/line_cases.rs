@@ -3,6 +3,7 @@ use quay::{BodyPlace, Entry, Event, Phase, Place, Reader, Refusal, Total, WirePl
 
 use crate::message_cases::tell_raw;
 use crate::raw;
+use crate::weight_cases::family_of;
 use crate::words::{tell_written, Malformed, Telling, Words};
 use crate::Told;
 
@@ -24,14 +25,15 @@ pub fn listen(words: &mut Words<'_>) -> Result<Told, Malformed> {
 
 pub fn list_event(words: &mut Words<'_>) -> Result<Told, Malformed> {
     let number = words.number("NUMBER")?;
+    let family = words.number("FAMILY")?;
     let event = event_words(words)?;
     let body = words.bytes("BODY")?;
     let room = words.bytes("ROOM")?;
     let mut lent = room.clone();
-    let listed = raw::list_event(number, event, &body, &mut lent);
-    let crate_own = own_event(event, &body).map(|event| {
+    let listed = raw::list_event(number, family, event, &body, &mut lent);
+    let crate_own = family_of(family).zip(own_event(event, &body)).map(|(family, event)| {
         let mut lent = room;
-        let listed_own = match quay::list_event(number, event, &mut lent) {
+        let listed_own = match quay::list_event(number, family, event, &mut lent) {
             Ok(listed) => raw::QuayListed { length: listed.length, entry: entry_number(listed.entry), refusal: 0 },
             // What would have been listed is not told beside a refusal; the raw call's word is taken for it.
             Err(why) => raw::QuayListed { length: 0, entry: listed.entry, refusal: why.number() },

@@ -2,6 +2,7 @@
 use quay::{Address, Load, Message, Role, Says};
 
 use crate::raw;
+use crate::weight_cases::{family_number, family_of};
 use crate::words::{tell_written, Malformed, Telling, Words};
 use crate::Told;
 
@@ -36,12 +37,13 @@ pub fn write_frame(words: &mut Words<'_>) -> Result<Told, Malformed> {
 
 pub fn write_message(words: &mut Words<'_>) -> Result<Told, Malformed> {
     let role = words.number("ROLE")?;
+    let family = words.number("FAMILY")?;
     let Asked { short, serial, code, data, room } = asked_words(words)?;
     let mut lent = room.clone();
-    let written = raw::write_message(role, (short, serial), code, &data, &mut lent);
-    let crate_own = role_of(role).map(|role| {
+    let written = raw::write_message(role, family, (short, serial), code, &data, &mut lent);
+    let crate_own = role_of(role).zip(family_of(family)).map(|(role, family)| {
         let mut lent = room;
-        let written = quay::write_message(role, address_of(short, serial), code, &data, &mut lent);
+        let written = quay::write_message(role, family, address_of(short, serial), code, &data, &mut lent);
         tell_written(written, &lent)
     });
     Ok(Told { raw: tell_raw(written, &lent), crate_own })
@@ -49,9 +51,10 @@ pub fn write_message(words: &mut Words<'_>) -> Result<Told, Malformed> {
 
 pub fn read_message(words: &mut Words<'_>) -> Result<Told, Malformed> {
     let role = words.number("ROLE")?;
+    let family = words.number("FAMILY")?;
     let body = words.bytes("BODY")?;
-    let raw = tell_message(raw::read_message(role, &body));
-    let crate_own = role_of(role).map(|role| match quay::read_message(role, &body) {
+    let raw = tell_message(raw::read_message(role, family, &body));
+    let crate_own = role_of(role).zip(family_of(family)).map(|(role, family)| match quay::read_message(role, family, &body) {
         Ok(message) => tell_message(own_message(message, &body)),
         Err(why) => tell_message(no_message(why.number())),
     });
@@ -88,7 +91,7 @@ pub fn tell_raw(written: raw::QuayWritten, room: &[u8]) -> String {
 
 fn tell_message(message: raw::QuayMessage) -> String {
     let what = message.what;
-    let weight = [what.weight.w0, what.weight.w1, what.weight.w2, what.weight.con];
+    let weight = [what.weight.w0, what.weight.w1, what.weight.w2, what.weight.con, what.weight.family];
     let told = Telling::default().number(message.refusal).number(message.short).number(message.serial);
     let told = told.number(message.code).number(message.from).number(message.to);
     let told = told.number(what.says).number(what.number).number(what.on).number(what.load);
@@ -100,7 +103,7 @@ const NO_NUMBER: u64 = u64::MAX;
 const NO_COUNT: u32 = u32::MAX;
 
 fn plain(says: u8, number: u64) -> raw::QuayWhat {
-    let weight = raw::QuayWeight { w0: 255, w1: 255, w2: 255, con: 255 };
+    let weight = raw::QuayWeight { w0: 255, w1: 255, w2: 255, con: 255, family: 255 };
     raw::QuayWhat { number, from: 0, to: 0, on: NO_COUNT, weight, load: 0, says }
 }
 
@@ -122,8 +125,8 @@ fn own_what(says: Says<'_>, body: &[u8]) -> raw::QuayWhat {
         Says::Number(number) => plain(2, u64::from(number)),
         Says::Status(status) => plain(3, u64::from(status)),
         Says::Weight { load, weight } => {
-            let [w0, w1, w2, con] = weight.0;
-            let weight = raw::QuayWeight { w0, w1, w2, con };
+            let [w0, w1, w2, con] = weight.bytes;
+            let weight = raw::QuayWeight { w0, w1, w2, con, family: family_number(weight.family) };
             raw::QuayWhat { weight, load: load_number(load), ..plain(4, NO_NUMBER) }
         }
         Says::Inputs { bits, on } => raw::QuayWhat { on, ..plain(5, u64::from(bits)) },

@@ -7,10 +7,10 @@ use Rattle.list_capture.proofs.list_all.Statement.{statement}
 use Rattle.list_capture.proofs.list_all.Tie as tie
 
 abbrev Inv-loop : tie.InvT-loop
-Inv-loop capture name block₀ page₀ run₀ turns₀ block page run turns = (length block ≡ length block₀) × (length page ≡ length page₀)
+Inv-loop capture name family block₀ page₀ run₀ turns₀ block page run turns = (length block ≡ length block₀) × (length page ≡ length page₀)
 
 abbrev μ-loop : tie.MeasureT-loop
-μ-loop capture name block₀ page₀ run₀ turns₀ block page run turns = turns
+μ-loop capture name family block₀ page₀ run₀ turns₀ block page run turns = turns
 
 fresh-requires : tie.Need-fresh-requires Inv-loop μ-loop
 fresh-requires c κs = search needs

@@ -1,60 +1,29 @@
--- `weight::read_bytes` meets its promise: a reading where all halves are digits, and refusal 8 otherwise.
--- Why: the test is that of `readOf`, and each field is taken from the same place of the same byte.
+-- `weight::read_bytes` meets its promise: the reading by the family whose number stands beside the bytes, and refusal 8 if it names none.
+-- Why: the number names what `readOf` asks for, and each arm tells which.
 use borrow.Author.Needs.{needs}
 use Rattle.weight.specs.Bytes.{readOf}
 use Rattle.weight.proofs.read_bytes.Statement.{statement}
 use Rattle.weight.proofs.read_bytes.Tie as tie
 
-are-decimal-requires : tie.Need-are-decimal-requires
-are-decimal-requires c κs = search needs
+family-named-requires : tie.Need-family-named-requires
+family-named-requires c κs = search needs
 
-two-digits-requires : tie.Need-two-digits-requires
-two-digits-requires c κs = search needs
+enum-known-family : tie.Need-enum-known-family
+enum-known-family c = search needs
 
-mul-number : tie.Need-mul-number
-mul-number c = search needs
+read-as-requires : tie.Need-read-as-requires
+read-as-requires c κs = search needs
 
-two-digits-requires-2 : tie.Need-two-digits-requires-2
-two-digits-requires-2 c κs = search needs
-
-mul-number-2 : tie.Need-mul-number-2
-mul-number-2 c = search needs
-
-add-number : tie.Need-add-number
-add-number c = search needs
-
-two-digits-requires-3 : tie.Need-two-digits-requires-3
-two-digits-requires-3 c κs = search needs
-
-add-number-2 : tie.Need-add-number-2
-add-number-2 c = search needs
+enum-told : tie.Need-enum-told
+enum-told c = search needs
 
 returns : tie.Need-returns
 unfolding readOf
-returns c =
-    simp (
-      ← c .before .before .before .before .are-decimal .ensures,
-      c .before .before .before .if1 .taken,
-      c .before .before .two-digits .ensures,
-      c .before .two-digits2 .ensures,
-      c .two-digits3 .ensures,
-    )
+returns c = rw (← c .before .before .before .before .family-named .ensures, c .before .before .family .given .1) (c .read-as .ensures)
 
 returns-2 : tie.Need-returns-2
 unfolding readOf
-returns-2 c = simp (← c .before .are-decimal .ensures, c .if1 .left)
+returns-2 c = rw (← c .before .before .family-named .ensures, c .enum-told .given .1)
 
 pub read-bytes-spec : {M : Type 1} → statement M
-read-bytes-spec =
-    tie.close
-    (tie.spec
-    are-decimal-requires
-    two-digits-requires
-    mul-number
-    two-digits-requires-2
-    mul-number-2
-    add-number
-    two-digits-requires-3
-    add-number-2
-    returns
-    returns-2)
+read-bytes-spec = tie.close (tie.spec family-named-requires enum-known-family read-as-requires enum-told returns returns-2)

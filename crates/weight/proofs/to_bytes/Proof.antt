@@ -22,16 +22,20 @@ pair-requires-3 c κs = search needs
 status-requires : tie.Need-status-requires
 status-requires c κs = legal-point _ (sym (c .before .before .before .before .in-range .ensures) ∙ c .before .before .before .if1 .taken)
 
+family-number-requires : tie.Need-family-number-requires
+family-number-requires c κs = search needs
+
 returns : tie.Need-returns
 unfolding packedOf
 returns c =
     simp (
-      ← c .before .before .before .before .before .in-range .ensures,
-      c .before .before .before .before .if1 .taken,
-      c .before .before .before .pair .ensures,
-      c .before .before .pair2 .ensures,
-      c .before .pair3 .ensures,
-      c .status .ensures,
+      ← c .before .before .before .before .before .before .in-range .ensures,
+      c .before .before .before .before .before .if1 .taken,
+      c .before .before .before .before .pair .ensures,
+      c .before .before .before .pair2 .ensures,
+      c .before .before .pair3 .ensures,
+      c .before .status .ensures,
+      c .family-number .ensures,
     )
 
 returns-2 : tie.Need-returns-2
@@ -47,5 +51,6 @@ to-bytes-spec =
     pair-requires-2
     pair-requires-3
     status-requires
+    family-number-requires
     returns
     returns-2)

@@ -4,7 +4,6 @@ use mathlib.Core.Path.{_∙_}
 use Rattle.entries.specs.Entries.{entryHeard}
 use Rattle.entries.proofs.Listed.{no-frame}
 use borrow.Author.Needs.{needs}
-use borrow.Author.Needs.{needs}
 use Rattle.entries.proofs.entries.heard.Statement.{statement}
 use Rattle.entries.proofs.entries.heard.Tie as tie
 
@@ -29,7 +28,7 @@ returns c = rw (c .entry-of .ensures, c .before .read .ensures, c .before .befor
 
 returns-2 : tie.Need-returns-2
 returns-2 c = let start = c .before .before .before in
-    c .heard-without-check .ensures ∙ no-frame (start .args .event) (start .args .body .now) (c .before .match .keys2)
+    c .heard-without-check .ensures ∙ no-frame _ (start .args .event) (start .args .body .now) (c .before .match .keys2)
 
 pub heard-spec : {M : Type 1} → statement M
 heard-spec =

@@ -9,10 +9,10 @@ use Rattle.list_capture.proofs.telling.list_block.Statement.{statement}
 use Rattle.list_capture.proofs.telling.list_block.Tie as tie
 
 abbrev Inv-loop : tie.InvT-loop
-Inv-loop block room₀ reader₀ place₀ page₀ counts₀ at₀ room reader place page counts at = (at ≤ length block) × ((length (reader .body) ≡ 255) × (length room ≡ length room₀))
+Inv-loop family block room₀ reader₀ place₀ page₀ counts₀ at₀ room reader place page counts at = (at ≤ length block) × ((length (reader .body) ≡ 255) × (length room ≡ length room₀))
 
 abbrev μ-loop : tie.MeasureT-loop
-μ-loop block room₀ reader₀ place₀ page₀ counts₀ at₀ room reader place page counts at = length block - at
+μ-loop family block room₀ reader₀ place₀ page₀ counts₀ at₀ room reader place page counts at = length block - at
 
 loop-holds : tie.Need-loop-holds Inv-loop μ-loop
 loop-holds c = (omega arith, (search needs, search needs))

@@ -1,6 +1,7 @@
 -- `listing::put_reading` meets its contract: the fields of a reading, and the end of the line.
 -- Why: sign and digits are put ahead of the marks.
 use Rattle.listing.proofs.Putting.{ahead-then}
+use native.Mathlib.Omega.{arith}
 use borrow.Author.Needs.{needs}
 use Rattle.listing.proofs.pieces.put_reading.Statement.{statement}
 use Rattle.listing.proofs.pieces.put_reading.Tie as tie
@@ -15,7 +16,10 @@ same-length : tie.Need-same-length
 same-length c = search needs
 
 returns : tie.Need-returns
-returns c = ahead-then _ _ (c .before .before .before .before .before .before .put-marks .ensures) (c .before .before .put-digits .ensures)
+returns c =
+    let marks = c .before .before .before .before .before .before .put-marks .ensures in
+    let digits = c .before .before .put-digits .ensures in
+    (ahead-then _ _ (marks .0) digits, omega (arith, marks .1, digits .place))
 
 pub put-reading-spec : {M : Type 1} → statement M
 put-reading-spec = tie.close (tie.spec put-marks-requires put-digits-requires same-length returns)

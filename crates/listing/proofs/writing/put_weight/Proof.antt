@@ -21,7 +21,7 @@ same-length : tie.Need-same-length
 same-length c = search needs
 
 returns : tie.Need-returns
-returns c = weight-ahead (c .before .before .before .before .before .before .before .before .before .before .before .before .before .before .before .before .before .args .number) (c .before .before .before .before .before .before .before .before .before .before .before .before .before .before .before .before .before .args .load) (c .before .before .before .before .before .before .before .before .before .before .before .before .before .before .before .before .before .args .address) (c .before .before .before .before .before .before .before .before .before .before .before .before .before .before .before .before .before .args .reading) (c .before .before .before .before .before .before .before .before .before .before .before .before .before .before .put-reading .ensures) (c .before .before .before .before .before .before .before .before .before .before .put-address .ensures .0) (c .before .before .before .before .before .before .put-load .ensures .0) (c .before .before .put-decimal .ensures .0)
+returns c = weight-ahead (c .before .before .before .before .before .before .before .before .before .before .before .before .before .before .before .before .before .args .number) (c .before .before .before .before .before .before .before .before .before .before .before .before .before .before .before .before .before .args .load) (c .before .before .before .before .before .before .before .before .before .before .before .before .before .before .before .before .before .args .address) (c .before .before .before .before .before .before .before .before .before .before .before .before .before .before .before .before .before .args .reading) (c .before .before .before .before .before .before .before .before .before .before .before .before .before .before .put-reading .ensures .0) (c .before .before .before .before .before .before .before .before .before .before .put-address .ensures .0) (c .before .before .before .before .before .before .put-load .ensures .0) (c .before .before .put-decimal .ensures .0)
 
 pub put-weight-spec : {M : Type 1} → statement M
 put-weight-spec =

@@ -133,10 +133,10 @@ unfolding said
 returns-9 c = rw (c .before .enum-told7 .given .1, c .word-in2 .ensures)
 
 returns-10 : tie.Need-returns-10
-returns-10 c = rw (c .before .before .row3 .given .1) (c .say-text .ensures)
+returns-10 c = rw (c .before .before .row3 .given .1) (c .say-text .ensures _)
 
 returns-11 : tie.Need-returns-11
-returns-11 c = rw (c .before .enum-told8 .given .1) (c .say-event .ensures)
+returns-11 c = rw (c .before .enum-told8 .given .1) (c .say-event .ensures _)
 
 returns-12 : tie.Need-returns-12
 unfolding said

@@ -19,7 +19,7 @@ judged-requires c κs = search needs
 
 returns : tie.Need-returns
 unfolding said
-returns c = c .judged .ensures
+returns c family = c .judged .ensures
 
 pub say-event-spec : {M : Type 1} → statement M
 say-event-spec =

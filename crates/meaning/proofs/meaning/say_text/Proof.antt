@@ -24,7 +24,7 @@ judged-requires c κs = search needs
 
 returns : tie.Need-returns
 unfolding said
-returns c = rw (← c .before .is-among .ensures) (c .judged .ensures)
+returns c family = rw (← c .before .is-among .ensures) (c .judged .ensures)
 
 pub say-text-spec : {M : Type 1} → statement M
 say-text-spec =

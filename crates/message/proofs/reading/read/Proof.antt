@@ -12,7 +12,7 @@ read-without-check-requires : tie.Need-read-without-check-requires
 read-without-check-requires c κs = search needs
 
 returns : tie.Need-returns
-returns c = rw (c .read-without-check .ensures, c .before .check-right .ensures) (by-its-check _ _)
+returns c = rw (c .read-without-check .ensures, c .before .check-right .ensures) (by-its-check _ _ _)
 
 pub read-spec : {M : Type 1} → statement M
 read-spec = tie.close (tie.spec check-right-requires read-without-check-requires returns)

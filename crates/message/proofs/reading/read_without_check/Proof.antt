@@ -34,13 +34,13 @@ enum-known-what : tie.Need-enum-known-what
 enum-known-what c = search needs
 
 returns : tie.Need-returns
-returns c = unopened _ _ _ _ (sym (c .before .before .before .open-without-check .ensures) ∙ c .before .why .given .1)
+returns c = unopened _ _ _ _ _ (sym (c .before .before .before .open-without-check .ensures) ∙ c .before .why .given .1)
 
 returns-2 : tie.Need-returns-2
-returns-2 c = untold _ (c .before .before .before .before .before .before .before .before .before .before .args .body .now) (c .before .before .before .before .before .before .parts .given .0 .0) (sym (c .before .before .before .before .before .before .before .before .open-without-check .ensures) ∙ c .before .before .before .before .before .before .parts .given .1) _ _ (sym (c .before .before .before .tell .ensures) ∙ c .before .why2 .given .1)
+returns-2 c = untold _ (c .before .before .before .before .before .before .before .before .before .before .args .body .now) (c .before .before .before .before .before .before .parts .given .0 .0) (sym (c .before .before .before .before .before .before .before .before .open-without-check .ensures) ∙ c .before .before .before .before .before .before .parts .given .1) _ _ _ (sym (c .before .before .before .tell .ensures) ∙ c .before .why2 .given .1)
 
 returns-3 : tie.Need-returns-3
-returns-3 c = message-told _ (c .before .before .before .before .before .before .before .before .before .before .args .body .now) (c .before .before .before .before .before .before .parts .given .0 .0) (sym (c .before .before .before .before .before .before .before .before .open-without-check .ensures) ∙ c .before .before .before .before .before .before .parts .given .1) _ _ (sym (c .before .before .before .tell .ensures) ∙ c .before .what .given .1)
+returns-3 c = message-told _ (c .before .before .before .before .before .before .before .before .before .before .args .body .now) (c .before .before .before .before .before .before .parts .given .0 .0) (sym (c .before .before .before .before .before .before .before .before .open-without-check .ensures) ∙ c .before .before .before .before .before .before .parts .given .1) _ _ _ (sym (c .before .before .before .tell .ensures) ∙ c .before .what .given .1)
 
 pub read-without-check-spec : {M : Type 1} → statement M
 read-without-check-spec =

@@ -42,7 +42,7 @@ unfolding told writtenMessage judgedMessageWrite
 returns-2 c =
     let tell = c .before .before .before .before in
     let is-legal = sym (tell .before .before .legal .ensures) ∙ not-false _ (tell .before .if1 .left) in
-    rw (is-legal, verdict-refused told-tells (judgedMessage _ _ _) _ _ (sym (tell .tell .ensures) ∙ c .before .before .why .given .1)) (refused-leaves (c .refused-write2 .ensures))
+    rw (is-legal, verdict-refused told-tells (judgedMessage _ _ _ _) _ _ (sym (tell .tell .ensures) ∙ c .before .before .why .given .1)) (refused-leaves (c .refused-write2 .ensures))
 
 same-length : tie.Need-same-length
 same-length c = search needs
@@ -52,7 +52,7 @@ unfolding told writtenMessage judgedMessageWrite writtenFrame judgedWrite judged
 returns-3 c =
     let tell = c .before .before .before .before .before .before in
     let is-legal = sym (tell .before .before .legal .ensures) ∙ not-false _ (tell .before .if1 .left) in
-    rw (is-legal, verdict-good told-tells (judgedMessage _ _ _) _ _ (sym (tell .tell .ensures) ∙ c .before .before .before .before .enum-told .given .1) .0)
+    rw (is-legal, verdict-good told-tells (judgedMessage _ _ _ _) _ _ (sym (tell .tell .ensures) ∙ c .before .before .before .before .enum-told .given .1) .0)
     (rw is-legal at (c .before .before .write .ensures))
 
 pub write-spec : {M : Type 1} → statement M

@@ -1,0 +1,43 @@
+-- `listing::put_scale_number` meets its contract: `scale0` or `scale1`, and the end of the line.
+-- Why: in each branch the bit is the one that the branch names.
+use native.Mathlib.Omega.{arith}
+use borrow.Author.Needs.{needs}
+use Rattle.listing.proofs.pieces.put_scale_number.Statement.{statement}
+use Rattle.listing.proofs.pieces.put_scale_number.Tie as tie
+
+slice-aggregate-put : tie.Need-slice-aggregate-put
+slice-aggregate-put c = search needs
+
+put-requires : tie.Need-put-requires
+put-requires c κs = search needs
+
+slice-aggregate-put-2 : tie.Need-slice-aggregate-put-2
+slice-aggregate-put-2 c = search needs
+
+put-requires-2 : tie.Need-put-requires-2
+put-requires-2 c κs = search needs
+
+same-length : tie.Need-same-length
+same-length c = search needs
+
+returns : tie.Need-returns
+returns c = (rw (c .before .before .before .before .before .if1 .taken) (c .before .before .put .ensures), omega (arith, c .before .before .put .ensures .place))
+
+same-length-2 : tie.Need-same-length-2
+same-length-2 c = search needs
+
+returns-2 : tie.Need-returns-2
+returns-2 c = (rw (c .before .before .before .before .before .if1 .left) (c .before .before .put2 .ensures), omega (arith, c .before .before .put2 .ensures .place))
+
+pub put-scale-number-spec : {M : Type 1} → statement M
+put-scale-number-spec =
+    tie.close
+    (tie.spec
+    slice-aggregate-put
+    put-requires
+    slice-aggregate-put-2
+    put-requires-2
+    same-length
+    returns
+    same-length-2
+    returns-2)
