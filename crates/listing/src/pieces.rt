@@ -6,12 +6,12 @@ use room::lay;
 use weight::Family;
 use weight::Reading;
 ghost use mathlib.Core.Path.{_≡_};
+ghost use mathlib.Core.Bool.{cond};
 ghost use mathlib.Core.List.{[], _∷_, _++_};
 ghost use Prim.Native.Nat.{_+_, _≤_, _<_};
 ghost use lib.ListN.{length};
 ghost use Rattle.listing.specs.Texts.{spelt, digit, decimal, sixDigits, hexByte, addressText, signByte, markByte};
-ghost use Rattle.listing.specs.Lines.{rest, loadText, fifthFields, modeFields, markFields, readingFields};
-ghost use Rattle.weight.specs.Families.{netMode, scaleNumber};
+ghost use Rattle.listing.specs.Lines.{rest, loadText, modeFields, markFields, readingFields};
 ghost use Rattle.listing.specs.Writing.{Ahead};
 
 // The byte of a digit: 0 to 9, and then the capital letters A to F.
@@ -95,27 +95,15 @@ pub(crate) fn put_load(load: Load, text: &mut [u8], at: usize) -> usize
     }
 }
 
-// Net mode or not, and the end of the line.
-fn put_net_mode(set: bool, text: &mut [u8], at: usize) -> usize
-    requires { ⌜ (8 ≤ at) × (at ≤ length (now text)) ⌝ }
-    ensures { λ r. ⌜ Ahead (rest (fifthFields netMode set)) at (now (text .entry)) r (now (text .exit)) × (at ≤ r + 8) ⌝ }
+// One of two words, by a mark.
+fn put_either(mark: bool, set: &[u8], clear: &[u8], text: &mut [u8], at: usize) -> usize
+    requires { ⌜ (length (now set) ≤ 8) × (length (now clear) ≤ 8) × (8 ≤ at) × (at ≤ length (now text)) ⌝ }
+    ensures { λ r. ⌜ Ahead (cond mark (now (set .entry)) (now (clear .entry))) at (now (text .entry)) r (now (text .exit)) × (at ≤ r + 8) ⌝ }
 {
-    if set {
-        put(b" net\n", text, at)
+    if mark {
+        put(set, text, at)
     } else {
-        put(b" gross\n", text, at)
-    }
-}
-
-// The current scale number, and the end of the line.
-fn put_scale_number(set: bool, text: &mut [u8], at: usize) -> usize
-    requires { ⌜ (8 ≤ at) × (at ≤ length (now text)) ⌝ }
-    ensures { λ r. ⌜ Ahead (rest (fifthFields scaleNumber set)) at (now (text .entry)) r (now (text .exit)) × (at ≤ r + 8) ⌝ }
-{
-    if set {
-        put(b" scale1\n", text, at)
-    } else {
-        put(b" scale0\n", text, at)
+        put(clear, text, at)
     }
 }
 
@@ -127,9 +115,9 @@ fn put_mode(reading: Reading, text: &mut [u8], at: usize) -> usize
     let family = reading.family;
     match family {
         Family::Plain => put(b"\n", text, at),
-        Family::Of000 => put_net_mode(reading.bit5, text, at),
-        Family::Of001 => put_scale_number(reading.bit5, text, at),
-        Family::Of002 => put_net_mode(reading.bit5, text, at),
+        Family::Of000 => put_either(reading.bit5, b" net\n", b" gross\n", text, at),
+        Family::Of001 => put_either(reading.bit5, b" scale1\n", b" scale0\n", text, at),
+        Family::Of002 => put_either(reading.bit5, b" net\n", b" gross\n", text, at),
     }
 }
 
