@@ -72,8 +72,9 @@ enum { QUAY_REQUEST = 0, QUAY_REPLY = 1 }; /* role */
  *  - 001: bit 6 an event, bit 5 the current scale number, 0 or 1.
  *  - 002: bit 6 is reserved and must be 0: a weight that has it set is refused by 8, a record by 11. Bit 5 net mode.
  *  - plain: a record from before there were families. Neither bit has a meaning, and neither is judged.
- * Any other number is refused by 8, in a record by 11. Plain is 0. So an initialiser that leaves `family` out says plain, and bit 6 of a terminal of
- * 002 is not judged then. Say the family of the line wherever a struct or a call has one. */
+ * Any other number is refused by 8, in a record by 11. A family's number is one above its document's: QUAY_FAMILY_002 is 3, and a literal 2 is 001,
+ * which nothing refuses. Use the names. Plain is 0. So an initialiser that leaves `family` out says plain, and bit 6 of a terminal of 002 is not
+ * judged then. Say the family of the line wherever a struct or a call has one. */
 enum { QUAY_FAMILY_PLAIN = 0, QUAY_FAMILY_000 = 1, QUAY_FAMILY_001 = 2, QUAY_FAMILY_002 = 3 };
 
 enum { QUAY_GROSS = 1, QUAY_NET = 2 }; /* QuayWhat.load; 0 where no weight is said */
@@ -133,8 +134,8 @@ typedef struct QuayReading {
     uint32_t number; /* 0 to 999,999 */
     uint8_t point;   /* digits after the point, 0 to 7 */
     uint8_t minus;
-    uint8_t bit6;    /* what it means, the family says */
-    uint8_t bit5;    /* what it means, the family says */
+    uint8_t bit6;    /* what it means, the family says; 0 is no answer in plain, nor in 002 */
+    uint8_t bit5;    /* what it means, the family says; 0 is no answer in plain, and in 001 the bit is no net mode */
     uint8_t settled;
     uint8_t overload;
     uint8_t family;
@@ -185,7 +186,8 @@ typedef struct QuayMessage {
 } QuayMessage;
 
 /* A record of a log. Kind 0 is no record: if `refusal` is not 0 the record was refused, otherwise there was none. Kinds 0 and 3 are no weighing.
- * Their weight bytes are FF, which read as no weight. Test `kind` before you ask for a weight. */
+ * Their weight bytes are FF, which read as no weight. Test `kind` before you ask for a weight. A weighing becomes a weight as
+ * QuayWeight weight = {item.w0, item.w1, item.w2, item.status, item.family}; the four parts of before still compile, and say plain. */
 typedef struct QuayRecord {
     uint64_t time;
     uint32_t serial;

@@ -16,7 +16,7 @@ number of the rules paper's list. Or it is an event or a row of its own, which h
 The library (libquay.so) is loaded when it is first used. It is the one named in the environment variable QUAY_LIBRARY, or else the
 one beside this module. `load_library(path)` takes another.
 
-The caller says the family; nothing here has a default for it.
+The caller says the family by its name. Nothing here has a default for it, and nothing takes a number for it.
 
 >>> weight = Weight.from_bytes(bytes.fromhex('51020021'), Family.OF_002)
 >>> weight.value, weight.kilograms_exact, weight.kilograms, weight.reading.mode

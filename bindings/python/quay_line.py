@@ -6,7 +6,7 @@ from dataclasses import dataclass
 from enum import IntEnum
 from typing import Iterator, List, Tuple, Union
 
-from quay_family import Family
+from quay_family import Family, said_family
 from quay_library import (BODY_BYTES, HIGHEST_BYTE, HIGHEST_COUNT, Bytes, QuayEvent, QuayPlace, address_of, as_bytes, library,
                           whole_number)
 from quay_refusal import accepted, meaning_of
@@ -31,7 +31,7 @@ class Frame:
         """The family, the event and its body as the library takes them."""
         kept = whole_number('kept', self.kept, HIGHEST_COUNT)
         event = QuayEvent(whole_number('wire', self.wire, HIGHEST_COUNT), kept, FRAME_KIND, 0)
-        return Family(self.family), event, as_bytes(self.body)
+        return said_family(self.family), event, as_bytes(self.body)
 
 
 @dataclass(frozen=True)
@@ -79,7 +79,7 @@ class Reader:
     """
 
     def __init__(self, family: Family) -> None:
-        self._family = Family(family)
+        self._family = said_family(family)
         self._place = QuayPlace()
         self._body = ctypes.create_string_buffer(BODY_BYTES)
 

@@ -10,7 +10,7 @@ from typing import Dict, List, Optional, Tuple, Union
 from quay_family import Family
 from quay_library import HIGHEST_BYTE, HIGHEST_COUNT, Bytes, QuayRecord, as_bytes, library, whole_number
 from quay_line import Event
-from quay_message import Address, Load, Role, address_from
+from quay_message import Address, Load, Role, address_from, said_role
 from quay_refusal import Refused, accepted
 from quay_weight import Weight
 
@@ -79,7 +79,7 @@ def record_heard(time: int, event: Event, role: Role = Role.REPLY) -> Optional[R
     RefusalMet(time=1000, number=4)
     """
     family, crossing, body = event.crossing()
-    item = accepted(library().quay_record_heard(_seconds(time), Role(role), family, crossing, body, len(body)))
+    item = accepted(library().quay_record_heard(_seconds(time), said_role(role), family, crossing, body, len(body)))
     return _told(item) if item.kind else None
 
 

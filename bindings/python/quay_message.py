@@ -7,7 +7,7 @@ from dataclasses import dataclass
 from enum import IntEnum
 from typing import Any, Optional, Tuple
 
-from quay_family import Family
+from quay_family import Family, said_family
 from quay_library import BODY_BYTES, HIGHEST_BYTE, Bytes, QuayWeight, as_bytes, library, whole_number
 from quay_refusal import accepted
 from quay_weight import Weight
@@ -25,6 +25,18 @@ class Role(IntEnum):
     """Who speaks: the poller requests, the terminal replies."""
     REQUEST = 0
     REPLY = 1
+
+
+def said_role(said: object) -> Role:
+    """A role that a caller said. A number is not taken: a family stands beside the role, and `Family.OF_000` is 1 as `Role.REPLY` is.
+
+    >>> said_role(Family.OF_000)
+    Traceback (most recent call last):
+    TypeError: <Family.OF_000: 1> is not a role: say it by its name, Role.REQUEST or Role.REPLY
+    """
+    if not isinstance(said, Role):
+        raise TypeError(f'{said!r} is not a role: say it by its name, Role.REQUEST or Role.REPLY')
+    return said
 
 
 class Load(IntEnum):
@@ -114,7 +126,7 @@ def read_message(body: Bytes, family: Family, role: Role = Role.REPLY) -> Messag
     quay_refusal.Refused: refusal 4: check not 0
     """
     held = as_bytes(body)
-    message = accepted(library().quay_read_message(Role(role), Family(family), held, len(held)))
+    message = accepted(library().quay_read_message(said_role(role), said_family(family), held, len(held)))
     what, says = message.what, Says(message.what.says)
     weighed = says is Says.WEIGHT
     numbered = says not in (Says.NOTHING, Says.WEIGHT)
@@ -149,7 +161,7 @@ def write_message(role: Role, family: Family, address: Address, code: int, data:
     Traceback (most recent call last):
     quay_refusal.Refused: refusal 6: code not in the table for that role
     """
-    return _written(library().quay_write_message, (Role(role), Family(family)), address, code, data)
+    return _written(library().quay_write_message, (said_role(role), said_family(family)), address, code, data)
 
 
 def _written(write: Any, spoken: Tuple[int, ...], address: Address, code: int, data: Bytes) -> bytes:

@@ -5,7 +5,7 @@ from dataclasses import dataclass
 from fractions import Fraction
 from typing import Optional
 
-from quay_family import Family, mode_of
+from quay_family import Family, mode_of, said_family
 from quay_library import HIGHEST_BYTE, Bytes, QuayWeight, as_bytes, library, whole_number
 from quay_refusal import accepted
 
@@ -16,7 +16,7 @@ WEIGHT_BYTES = 4
 @dataclass(frozen=True)
 class Reading:
     """What a terminal shows: the sign bit, the number 0 to 999,999, the digits after the point, and the flags. What bits 6 and 5 mean, the
-    family says."""
+    family says. False is no answer in plain, nor for bit 6 in 002; bit 5 of 001 is no net mode."""
     number: int
     point: int
     minus: bool
@@ -29,6 +29,7 @@ class Reading:
     @property
     def mode(self) -> Optional[str]:
         """What bit 5 says, in the listing's words: `net` or `gross` (000 and 002), `scale0` or `scale1` (001). None in the plain family.
+        001 has no net mode: what is not `net` need not be gross.
 
         It is the terminal's mode and not the weight that was asked for: the two may differ.
         """
@@ -60,7 +61,7 @@ class Weight:
     def __post_init__(self) -> None:
         for name in ('w0', 'w1', 'w2', 'con'):
             whole_number(name, getattr(self, name), HIGHEST_BYTE)
-        Family(self.family)
+        said_family(self.family)
 
     @classmethod
     def from_bytes(cls, four: Bytes, family: Family) -> Weight:

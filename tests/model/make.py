@@ -7,8 +7,9 @@
 
 The committed files are what `crates/vectors` reads and must write, and a mixed
 capture with its listing, which `crates/list_capture` reads and must write; and
-the small wires of samples/ with theirs. All captures are listed as family 002.
-As text there is a file per part of the model with one case a line.
+the small wires of samples/ with theirs. The mixed capture is listed as family
+002, each small wire as its own. As text there is a file per part of the model
+with one case a line.
 """
 
 import collections
@@ -29,10 +30,6 @@ CAPTURE_SIZE = 200_000
 SHOWN = 10  # cases that a difference shows whole
 
 
-def listed(capture):
-    return listing.listing_of(listing.FAMILY_NOT_SAID, capture)
-
-
 def text_of(part):
     return ''.join(cases.line_of(case) + '\n' for case in part()).encode('ascii')
 
@@ -47,7 +44,7 @@ def run_files():
     """(program, what it reads, what it must write) of the committed files."""
     yield ('vectors', *vectors.files())
     capture = captures.capture(CAPTURE_SEED, CAPTURE_SIZE)
-    yield 'list_capture', capture, listed(capture)
+    yield 'list_capture', capture, listing.listing_of(listing.FAMILY_NOT_SAID, capture)
 
 
 def committed_files():
@@ -55,9 +52,9 @@ def committed_files():
     for program, stdin, stdout in run_files():
         yield 'crates/%s/stdin' % program, stdin
         yield 'crates/%s/stdout' % program, stdout
-    for name, wire in sample.SAMPLES:
+    for name, wire, family in sample.SAMPLES:
         yield 'samples/%s.capture' % name, wire()
-        yield 'samples/%s.listing' % name, listed(wire())
+        yield 'samples/%s.listing' % name, listing.listing_of(family, wire())
 
 
 def content_of(path):

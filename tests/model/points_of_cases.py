@@ -8,14 +8,14 @@ import cases_walker
 from addresses import BRIDGES, HIGH
 from captures import weight_from
 from check_byte import register_of
-from families import OF_002
+from families import OF_000, OF_001, OF_002
 from frame import frame_of, open_body
 from good_messages import ROWS
 from line import FRESH, feed, hear, kept_bytes
 from listing import listing_of
 from message import ROLES, judge_message
 from refusals import ACCEPTED
-from sample import morning, older
+from sample import SAMPLES, morning, older, platforms
 from walker import END
 from weight import is_decimal
 
@@ -100,9 +100,11 @@ def test_every_layer_is_asked(expect):
 
 
 def test_older_sample(expect):
-    """samples/older: weights of both bridges, a stuffed check, refusals 1, 3 and 4."""
+    """samples/older: weights of both bridges, a stuffed check, refusals 1, 3 and 4.
+    Its listing is that of 002 too, where no family is said."""
     events = list(hear(older()))
-    listing = listing_of(OF_002, older()).decode('ascii')
+    listing = listing_of(OF_000, older()).decode('ascii')
+    expect('older', listing_of(OF_002, older()).decode('ascii'), listing)
     for first in BRIDGES:
         for word in ('gross', 'net'):
             expect('older', ' weight %s %d ' % (word, first) in listing, True)
@@ -235,13 +237,40 @@ def test_family_answers(expect):
                             3: {b'gross', b'net'}})
 
 
-def test_samples_of_002(expect):
-    """Listed as 002, every weight of samples/ has its last field, and no bit 6."""
-    for wire in (morning(), older()):
-        lines = listing_of(OF_002, wire).decode('ascii').splitlines()
-        weights = [line for line in lines if ' weight ' in line]
-        expect('samples', {line.split()[-1] for line in weights}, {'gross'})
-        expect('samples', [line for line in lines if line.endswith('refused 8')], [])
+def words_listed(family, wire):
+    """The lines of a listing as lists of words, the total left out."""
+    return [line.split() for line in listing_of(family, wire).decode('ascii').splitlines()[:-1]]
+
+
+def test_samples_by_family(expect):
+    """Each listing of samples/ by its own family: the words that end its weights,
+    and no refusal 8, which a bit 6 of 002 would be."""
+    words = {'morning': {'gross', 'net'}, 'older': {'gross'}, 'platforms': {'scale0', 'scale1'}}
+    expect('samples', [name for name, *_ in SAMPLES], list(words))
+    for name, wire, family in SAMPLES:
+        lines = words_listed(family, wire())
+        expect(name, {line[-1] for line in lines if line[1] == 'weight'}, words[name])
+        expect(name, [line for line in lines if line[1:] == ['refused', '8']], [])
+
+
+def test_morning_sample(expect):
+    """samples/morning: a net weight in net mode, and one in gross mode."""
+    expect('morning', {line[-1] for line in words_listed(OF_002, morning()) if line[1:3] == ['weight', 'net']},
+           {'gross', 'net'})
+
+
+def test_platforms_sample(expect):
+    """samples/platforms: weights of both platforms, one of them with bit 6 set, a
+    refusal 4, another message. As 002, which it is not, the weight with bit 6 is
+    refusal 8, and the platforms are told as modes."""
+    lines = words_listed(OF_001, platforms())
+    expect('platforms', [' '.join(line[1:3]) for line in lines],
+           ['weight gross', 'weight gross', 'refused 4', 'weight gross', 'weight gross', 'weight net', 'message 12',
+            'weight gross'])
+    modes = {'scale0': 'gross', 'scale1': 'net'}
+    wanted = [[*line[:-1], modes[line[-1]]] if line[1] == 'weight' else line for line in lines]
+    wanted[5] = ['6', 'refused', '8']
+    expect('platforms', words_listed(OF_002, platforms()), wanted)
 
 
 @lru_cache(maxsize=None)
@@ -352,5 +381,6 @@ def test_walks_meet_everything(expect):
 
 
 TESTS = (test_every_layer_is_asked, test_every_family_is_asked, test_every_row_in_every_family,
-         test_family_answers, test_older_sample, test_samples_of_002, test_walkers_start_everywhere,
+         test_family_answers, test_older_sample, test_samples_by_family, test_morning_sample,
+         test_platforms_sample, test_walkers_start_everywhere,
          test_small_captures_from_every_place, test_lent_bytes_are_marked, test_walks_meet_everything)

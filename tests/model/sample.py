@@ -1,16 +1,21 @@
-"""Two small wires of a quay, for samples/: what a clerk can list first.
+"""Three small wires of a quay, for samples/: what a clerk can list first.
 
 Good frames of several kinds, damage, silence, and a join in the middle of a
-frame. Every byte is said here; nothing is random.
+frame. Every byte is said here; nothing is random. Each wire has the family that
+it is listed as: no byte of it tells the family.
 """
 
+from families import OF_000, OF_001
 from frame import body_of, frame_of
+from listing import FAMILY_NOT_SAID
 
 LANE_1 = ('short', 1)
 LANE_2 = ('short', 2)
 RAMP = ('serial', 70_501)  # a terminal that was never given a short address
 NORTH = ('short', 0xA4)    # the older bridges of 02 request 1, terminals of documents 000 and 001
 SOUTH = ('short', 0xF0)
+HALL = ('short', 11)       # terminals of document 001, each with two platforms
+SHED = ('short', 12)
 SILENCE = bytes([0xFF]) * 24
 
 
@@ -33,7 +38,7 @@ def morning():
         lorry[5:],                                          # joined late: no frame, and no refusal
         weighed(LANE_1, 0xC3, 18_460, 0x00),                # still rolling
         weighed(LANE_1, 0xC3, 18_440, 0x10),
-        weighed(LANE_1, 0xC2, 4_280, 0x10),                 # its freight
+        weighed(LANE_1, 0xC2, 4_280, 0x30),                 # its freight, in net mode
         SILENCE,
         weighed(LANE_2, 0xC3, 12_345, 0x11),                # one digit behind the point
         damaged(weighed(LANE_2, 0xC3, 40_960, 0x10), 4, 8),  # the ramp motor starts: a wrong check
@@ -41,7 +46,7 @@ def morning():
         weighed(LANE_2, 0xC3, 40_960, 0x18),                # overloaded
         frame_of(body_of(RAMP, 0xA1, b'\x65\x13\x01')),     # a serial number
         frame_of(body_of(RAMP, 0xC4, b'\x0f\x00\x00\x80')),  # the inputs
-        weighed(RAMP, 0xC2, 0, 0x90),                       # minus zero, settled: a weight of nothing that was heard
+        weighed(RAMP, 0xC2, 0, 0x90),                       # minus zero, in gross mode: a weight of nothing that was heard
         frame_of(body_of(LANE_1, 0xC3, b'')),               # the poll itself, echoed
         bytes([0xFF, 0x01, 0xFF, 0xFF]),                    # a body of one byte
         bytes([0xFF, 0xC3, 0x01, 0xFF, 0x42]),              # a byte that is neither FE nor FF behind an FF
@@ -80,4 +85,25 @@ def older():
     ))
 
 
-SAMPLES = (('morning', morning), ('older', older))
+def platforms():
+    """A wire of terminals with two platforms, from the first byte that was heard."""
+    trailer = weighed(HALL, 0xC3, 22_380, 0x30)
+    return b''.join((
+        trailer[5:],                                        # joined late: no frame, and no refusal
+        weighed(HALL, 0xC3, 9_740, 0x10),                   # a lorry, on platform 0
+        weighed(HALL, 0xC3, 22_360, 0x20),                  # its trailer, on platform 1, still rolling
+        damaged(trailer, 6, 0x20),                          # its platform is hit, and would read as 0: a wrong check
+        trailer,
+        weighed(SHED, 0xC3, 31_505, 0x11),                  # one digit behind the point
+        weighed(SHED, 0xC2, 18_220, 0x71),                  # bit 6: an event, as the driver has typed a code
+        frame_of(body_of(SHED, 0xC7, b'\x02004711')),       # the code
+        weighed(HALL, 0xC3, 0, 0x10),                       # driven off: a weight of nothing that was heard
+        weighed(HALL, 0xC3, 0, 0x30)[:6],                   # the capture stops inside a frame
+    ))
+
+
+SAMPLES = (
+    ('morning', morning, FAMILY_NOT_SAID),
+    ('older', older, OF_000),  # taken as one line of 000: 02 request 1 has bridges of 000 and 001, on two quays
+    ('platforms', platforms, OF_001),
+)

@@ -24,9 +24,9 @@ pub struct Reading {
     pub point: u8,
     /// The sign bit. Minus zero has it too.
     pub minus: bool,
-    /// What it means, the family says.
+    /// What it means, the family says. False is no answer in plain, nor in 002.
     pub bit6: bool,
-    /// What it means, the family says: see [`Reading::mode`].
+    /// What it means, the family says: see [`Reading::mode`]. False is no answer in plain, and in 001 the bit is no net mode.
     pub bit5: bool,
     /// The load has come to rest.
     pub settled: bool,
@@ -37,7 +37,7 @@ pub struct Reading {
 }
 
 impl Reading {
-    /// What bit 5 says. None in the plain family, whatever the bit is.
+    /// What bit 5 says. None in the plain family, whatever the bit is. 001 has no net mode: what is not [`Mode::Net`] need not be gross.
     ///
     /// ```
     /// use quay::{Family, Mode, Refusal, Weight};

@@ -6,7 +6,7 @@ use quay::{list_event, list_total, Entry, Event, Family, Listed, Reader, Refusal
 
 const FAMILY: Family = Family::Of002;
 
-fn listing_of(capture: &[u8], size: usize) -> Vec<u8> {
+fn listing_of(family: Family, capture: &[u8], size: usize) -> Vec<u8> {
     let mut reader = Reader::new();
     let mut total = Total::default();
     let mut listing = Vec::new();
@@ -14,7 +14,7 @@ fn listing_of(capture: &[u8], size: usize) -> Vec<u8> {
     for block in capture.chunks(size) {
         let mut events = reader.feed(block);
         while let Some(event) = events.next() {
-            let listed = list_event(total.events + 1, FAMILY, event, &mut room).expect("room for any line");
+            let listed = list_event(total.events + 1, family, event, &mut room).expect("room for any line");
             total.count(listed.entry);
             listing.extend_from_slice(&room[..listed.length]);
         }
@@ -26,11 +26,11 @@ fn listing_of(capture: &[u8], size: usize) -> Vec<u8> {
 
 #[test]
 fn each_sample_lists_as_it_should_in_blocks_of_any_size() {
-    for name in ["morning", "older"] {
+    for (name, family) in [("morning", Family::Of002), ("older", Family::Of000), ("platforms", Family::Of001)] {
         let capture = sample(&format!("{name}.capture"));
         let wanted = String::from_utf8(sample(&format!("{name}.listing"))).expect("a listing is text");
         for size in 1..=capture.len() {
-            let listing = String::from_utf8(listing_of(&capture, size)).expect("a listing is text");
+            let listing = String::from_utf8(listing_of(family, &capture, size)).expect("a listing is text");
             assert_eq!(listing, wanted, "{name} in blocks of {size}");
         }
     }
@@ -46,12 +46,12 @@ fn the_papers_example_lists_exactly_so() {
     .concat();
     let wanted =
         "1 weight gross 1 + 000251 1 0 0 gross\n2 weight net 1 - 000005 1 1 0 gross\n3 refused 4\ntotal 3 weights 2 refused 1\n";
-    assert_eq!(String::from_utf8(listing_of(&capture, 7)).as_deref(), Ok(wanted));
+    assert_eq!(String::from_utf8(listing_of(FAMILY, &capture, 7)).as_deref(), Ok(wanted));
 }
 
 #[test]
 fn silence_lists_as_a_total_of_nothing() {
-    assert_eq!(listing_of(&[], 1), b"total 0 weights 0 refused 0\n");
+    assert_eq!(listing_of(FAMILY, &[], 1), b"total 0 weights 0 refused 0\n");
 }
 
 #[test]

@@ -1,6 +1,6 @@
 -- Shown: four bytes that read as a reading are its family's, with digits and with a bit 6 that the family allows; and which four bytes do not read.
 -- Why: the number beside them names one family, and the two tests of reading are asked by it.
-use Prim.Native.Nat.{ℕ, _≤_, _<_}
+use Prim.Native.Nat.{ℕ, zero, suc, _≤_, _<_}
 use mathlib.Core.Path.{_≡_, _∙_, refl, sym, ap}
 use mathlib.Core.Bool.{Bool, true, false, cond, _&&_, and-eq-true-iff}
 use native.Mathlib.Omega.{arith}
@@ -33,6 +33,18 @@ number-most Plain = omega arith
 number-most Of000 = omega arith
 number-most Of001 = omega arith
 number-most Of002 = omega arith
+
+-- and each of them is a family's
+record Numbered (number : ℕ) : Type 0 where
+  family : Family
+  is : number ≡ familyNumber family
+
+numbered : (number : ℕ) → number ≤ 3 → Numbered number
+numbered zero most = record { family = Plain; is = refl }
+numbered (suc zero) most = record { family = Of000; is = refl }
+numbered (suc (suc zero)) most = record { family = Of001; is = refl }
+numbered (suc (suc (suc zero))) most = record { family = Of002; is = refl }
+numbered (suc (suc (suc (suc number)))) most = absurd (omega arith)
 
 -- only 002 reserves bit 6
 pub free-allowed : (family : Family) (set : Bool) → (family ≡ Of002 → set ≡ false) → allowed (terminal family .sixth) set ≡ true
@@ -162,3 +174,10 @@ module _ (four : FourBytes) where
       by-digits : (decimal : Bool) → readable (cond (decimal && true) (read-as.Good (shown Plain four)) (read-as.Refused FieldOutside)) ≡ decimal
       by-digits true = refl
       by-digits false = refl
+
+  -- and with a family where bit 6 is clear under 002
+  pub free-readable : four .family ≤ 3 → digits Plain four ≡ true → (four .family ≡ 3 → marked sixth (four .con) ≡ false) → readable (readOf four) ≡ true
+  free-readable most decimal free =
+      let named = numbered (four .family) most in
+      let clear = free-allowed (named .family) (marked sixth (four .con)) (λ is. free (named .is ∙ ap familyNumber is)) in
+      ap readable (read-of (named .family) (named .is) ∙ so-reads (named .family) four decimal clear)

@@ -1,19 +1,20 @@
 -- Shown: the laws of 02's request 4: what stays as before, what is refused now, and that a family comes back; and the examples, computed.
 -- Why: for a legal reading the tests that were added hold; a family and its number name each other; the rest computes.
-use Prim.Native.Nat.{ℕ, zero, suc, _^_, _<_}
+use Prim.Native.Nat.{ℕ, zero, suc, _^_, _≤_, _<_}
 use mathlib.Core.Path.{_≡_, _∙_, refl, sym, ap}
 use mathlib.Core.Bool.{Bool, true, false, cond, _&&_, and-eq-true-iff}
 use mathlib.Core.List.{List, List·Memᴰ, List·Memᴰ·head, List·Memᴰ·tail, List·Memᴰ·not-nil}
 use mathlib.Core.Logic.{_⊎_, inl, inr, ⊎-elim}
 use native.Mathlib.Omega.{arith}
 use borrow.Author.Tests.{eqb-true, ne-eqb}
-use lib.Dec.{eqb}
+use lib.Dec.{eqb, lit≤}
 use lib.ListN.{length}
 use Rattle.refusal.specs.declared.Refusal.{Refusal}
 use Rattle.refusal.specs.declared.Refusal.the-variants.{FieldOutside, RecordBroken}
 use Rattle.refusal.specs.declared.Named.{Named}
 use Rattle.refusal.specs.declared.Named.the-variants as refusal-as
 use Rattle.refusal.specs.Numbers.{namedOf, lineStatus}
+use Rattle.body.specs.Addresses.{highestShort}
 use Rattle.line.specs.Listener.{Heard, nothing, frame, refused}
 use Rattle.weight.specs.declared.families.Family.{Family}
 use Rattle.weight.specs.declared.families.Family.the-variants.{Plain, Of000, Of001, Of002}
@@ -46,10 +47,11 @@ use Rattle.weighing_log.proofs.Heard.{refusal-kind}
 use Rattle.weighing_log.proofs.Weighings.{heard as weighing-heard}
 use Rattle.listing.specs.Writing.{writtenLine}
 use Rattle.demands.specs.BeforeFamilies.{without, inRangeBefore, ReadBefore, good as goodBefore, refused as refusedBefore, readBefore}
-use Rattle.demands.specs.Families.{LegalAsBefore, LegalWhereBefore, EachReadsAsBefore, ComeBack, ReservedRefused, ReservedUnread, Breaks, ElevenAlso, FamilyReadsBack, OldArePlain, PlainLine}
-use Rattle.demands.specs.LogsFromBefore.{WasGood, empty, first}
+use Rattle.demands.specs.Families.{LegalAsBefore, LegalWhereBefore, Reserved, NoFamily, EachReadsAsBefore, ComeBack, ReservedRefused, ReservedUnread, Breaks, ElevenAlso, FamilyReadsBack, IsPlain, OldArePlain, PlainLine}
+use Rattle.demands.specs.LogsFromBefore.{highestBefore, goodUpTo, WasGood, empty, first}
 use Rattle.demands.proofs.ByFamily.{same-family, digits, bit, so-reads, read-by, read-of, read-family, above-unread, reserved-unread, refused-by-8}
 use Rattle.demands.proofs.Logs.{noted-good}
+use Rattle.demands.proofs.LogsFromBefore.{stays-record}
 use Rattle.demands.proofs.Unheard.{not-met}
 
 -- ---- as before
@@ -123,11 +125,11 @@ module _ (four : FourBytes) where
   read-was reading e = let by = read-by four reading e in rw (by .so .decimal, by .so .is)
 
   refused-was : (why : Refusal) → readOf four ≡ read-as.Refused why
-      → (before ≡ refusedBefore why) ⊎ (((four .family ≡ familyNumber Of002) × (marked sixth (four .con) ≡ true)) ⊎ (3 < four .family))
+      → (before ≡ refusedBefore why) ⊎ (Reserved four ⊎ NoFamily four)
   refused-was why e = by-digits (digits Plain four) refl (familyNamed (four .family)) refl
     where
       by-bit : (family : Family) → familyNamed (four .family) ≡ named-as.Family family → digits Plain four ≡ true → (clear′ : Bool) → bit family four ≡ clear′
-          → (before ≡ refusedBefore why) ⊎ (((four .family ≡ familyNumber Of002) × (marked sixth (four .con) ≡ true)) ⊎ (3 < four .family))
+          → (before ≡ refusedBefore why) ⊎ (Reserved four ⊎ NoFamily four)
       by-bit family is decimal true clear′ =
           let number = named-number (four .family) family is in
           let reads = read-of four family (sym number) ∙ so-reads family four decimal clear′ in
@@ -137,13 +139,13 @@ module _ (four : FourBytes) where
           inr (inl (sym (named-number (four .family) family is) ∙ reserved .0, reserved .1))
 
       by-digits : (decimal : Bool) → digits Plain four ≡ decimal → (named : FamilyNamed) → familyNamed (four .family) ≡ named
-          → (before ≡ refusedBefore why) ⊎ (((four .family ≡ familyNumber Of002) × (marked sixth (four .con) ≡ true)) ⊎ (3 < four .family))
+          → (before ≡ refusedBefore why) ⊎ (Reserved four ⊎ NoFamily four)
       by-digits false none named is = inl (rw (none, refused-by-8 four why e))
       by-digits true decimal (named-as.Family family) is = by-bit family is decimal (bit family four) refl
       by-digits true decimal named-as.Unknown is = inr (inr (unknown-above (four .family) is))
 
 pub each-reads-as-before : EachReadsAsBefore
-each-reads-as-before four = record { read = read-was four; refused = refused-was four }
+each-reads-as-before four = record { read = read-was four; refused = refused-was four; unknown = above-unread four }
 
 pub come-back : ComeBack
 come-back = record { bytes = bytes-back; reading = written-back; family = read-family }
@@ -173,7 +175,7 @@ reserved-refused reading is set =
     }
 
 pub reserved-unread-everywhere : ReservedUnread
-reserved-unread-everywhere = reserved-unread
+reserved-unread-everywhere four set = reserved-unread four (set .0) (set .1)
 
 -- ---- 11
 
@@ -266,18 +268,31 @@ family-reads-back time small role family heard item e weighing =
           (read-family (weightBytes item) (mine .reading) (noted-reading item (mine .reading) (mine .noted)) ∙ number);
     }
 
--- an old record has no family
-old-plain : {highest : ℕ} {log : List ℕ} {items : List Record} → WasGood highest log items → (item : Record) → List·Memᴰ item items → item .family ≡ 0
-old-plain empty item among = absurd (List·Memᴰ·not-nil among)
-old-plain (first bytes size rest was later) item (List·Memᴰ·head same) =
-    ap (λ (one : Record). one .family) same ∙ eqb-true (recordIn bytes .family) 0 (and-eq-true-iff (eqb (recordIn bytes .family) 0) _ .0 was .0)
-old-plain (first bytes size rest was later) item (List·Memᴰ·tail among) = old-plain later item among
+-- an old record was good
+each-was : {highest : ℕ} {log : List ℕ} {items : List Record} → WasGood highest log items → (item : Record) → List·Memᴰ item items → goodUpTo highest item ≡ true
+each-was empty item among = absurd (List·Memᴰ·not-nil among)
+each-was {highest} (first bytes size rest was later) item (List·Memᴰ·head same) = ap (goodUpTo highest) same ∙ was
+each-was (first bytes size rest was later) item (List·Memᴰ·tail among) = each-was later item among
 
-pub old-are-plain : OldArePlain
-old-are-plain highest log items was item among =
-    let number = old-plain was item among in
+-- and it has no family; a weighing notes what its bytes were read as
+is-plain : (highest : ℕ) → highest ≤ highestShort → (item : Record) → goodUpTo highest item ≡ true → IsPlain item
+is-plain highest most item was =
+    let number = eqb-true (item .family) 0 (and-eq-true-iff (eqb (item .family) 0) _ .0 was .0) in
     record {
       number = number;
-      family = λ reading noted.
-          same-family (reading .family) Plain (read-family (weightBytes item) reading (noted-reading item reading noted) ∙ number);
+      weighing = λ weighed.
+          let mine = notes-reading item (stays-record highest item most was) weighed in
+          let reads = noted-reading item (mine .reading) (mine .noted) in
+          record {
+            reading = mine .reading;
+            noted = mine .noted;
+            was = read-was (weightBytes item) (mine .reading) reads;
+            plain = same-family (mine .reading .family) Plain (read-family (weightBytes item) (mine .reading) reads ∙ number);
+          };
     }
+
+pub old-are-plain : OldArePlain
+old-are-plain = (
+  λ log items was item among. is-plain highestBefore (lit≤ tt) item (each-was was item among),
+  λ log items was item among. is-plain highestShort (lit≤ tt) item (each-was was item among),
+)

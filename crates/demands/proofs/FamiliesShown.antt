@@ -3,6 +3,8 @@
 use Prim.Native.Nat.{ℕ}
 use mathlib.Core.Path.{_≡_, refl}
 use mathlib.Core.List.{List}
+use mathlib.Core.Logic.{inl, inr}
+use lib.Dec.{lit≤}
 use Rattle.check_byte.specs.Register.{shiftIn, feedBits, feedByte, feedAll, received, checkOf}
 use Rattle.low_first.specs.LowFirst.{lowFirst, lowBytes}
 use Rattle.body.specs.Addresses.{legal, addressBytes, addressIn, addressLength}
@@ -22,21 +24,33 @@ use Rattle.meaning.specs.Meaning.{meaning}
 use Rattle.meaning.specs.Judging.{judgedCode, judgedData, judgedMessage}
 use Rattle.message.specs.Reading.{messageOf, readMessage, readIf}
 use Rattle.message.specs.Writing.{judgedMessageWrite, writtenMessage}
+use Rattle.records.specs.Records.{addressOf, goodAddress, goodWeighing, goodMet, good}
 use Rattle.weighing_log.specs.Hearing.{metRecord, recordOf}
 use Rattle.entries.specs.Entries.{entryHeard}
 use Rattle.listing.specs.Texts.{decimal, decimalIn}
 use Rattle.listing.specs.Whole.{listing}
 use Rattle.demands.specs.Weighings.{recordsFrom}
-use Rattle.demands.specs.Families.{OnlyWeightsMove, FamiliesShown, SixthShown}
+use Rattle.demands.specs.Families.{OnlyWeightsMove, Byte17Shown, FamiliesShown, SixthShown}
 
 pub families-shown : FamiliesShown
 unfolding modeOf inRange listing entryHeard decimal decimalIn events heardThen hear hearIn keep ended tick readMessage readIf messageOf judgedMessage judgedCode judgedData rowOf lineOf lineIn fourIn readOf readAs familyNamed namedIn judgedLent judged short received feedAll feedByte feedBits shiftIn legal addressIn lowFirst addressLength codeIn dataIn
 families-shown =
-    record { numbers = refl; none-set = refl; fifth-set = refl; sixth-set = refl; fifth-lists = refl; none-lists = refl; listed = refl }
+    record { numbers = refl; none-set = refl; fifth-set = refl; sixth-set = refl; fifth-lists = refl; none-lists = refl; fifth-heard = refl; listed = refl }
 
 pub sixth-shown : SixthShown
 unfolding recordsFrom recordOf metRecord writtenMessage judgedMessageWrite bodyOf unchecked addressBytes lowBytes checkOf needed countFF listing entryHeard decimal decimalIn events heardThen hear hearIn keep ended tick readMessage readIf messageOf judgedMessage judgedCode judgedData rowOf lineOf lineIn fourIn readOf readAs familyNamed namedIn judgedLent judged short received feedAll feedByte feedBits shiftIn legal addressIn lowFirst addressLength codeIn dataIn
 sixth-shown = record { noted = refl; written = refl; listed = refl }
+
+pub byte-17-shown : Byte17Shown
+unfolding good goodWeighing goodMet goodAddress addressOf legal readOf readAs familyNamed namedIn
+byte-17-shown = record {
+  gross = refl;
+  gross-sixth = refl;
+  net = refl;
+  net-sixth = refl;
+  refusal = refl;
+  breaks = (inl (lit≤ tt), (inr (inl (refl, lit≤ tt)), inr (inr (refl, refl))));
+}
 
 -- ---- only weights move
 
@@ -73,6 +87,9 @@ module _ (one other : Family) where
   meaning-same Error from data′ none = refl
 
 pub only-weights-move : OnlyWeightsMove
-unfolding readMessage readIf messageOf judgedMessage judgedData
-only-weights-move role one other body none =
-    rw (fields-same one other (rowOf role (codeIn body)) (dataIn body) none, meaning-same one other (rowOf role (codeIn body)) _ (dataIn body) none)
+unfolding readMessage readIf messageOf writtenMessage judgedMessageWrite judgedMessage judgedData
+only-weights-move = record {
+  read = λ role one other body none.
+      rw (fields-same one other (rowOf role (codeIn body)) (dataIn body) none, meaning-same one other (rowOf role (codeIn body)) _ (dataIn body) none);
+  written = λ role one other address code data′ room none. rw (fields-same one other (rowOf role code) data′ none);
+}

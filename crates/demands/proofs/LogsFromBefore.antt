@@ -29,7 +29,7 @@ use Rattle.records.proofs.RoundTrip.{record-length, record-back}
 use Rattle.records.proofs.Rules.{met-bare, met-family, read-is, read-length, rest as last-zero}
 use Rattle.records.proofs.Unweighed.{else-met}
 use Rattle.weighing_log.specs.Hearing.{metOnLine}
-use Rattle.demands.proofs.ByFamily.{plain-readable, readable-family}
+use Rattle.demands.proofs.ByFamily.{plain-readable, free-readable, readable-family}
 use Rattle.demands.specs.LogsFromBefore.{highestBefore, goodAddressUpTo, goodWeighingUpTo, goodMetBefore, goodUpTo, WasGood, empty, first, StaysGood, EachBefore, WereGood, FiveStaysGood, FromHigher, WithFamily, OnlyThese, OnlyFamilies, HigherAdded, FamilyAdded, Moved}
 
 -- ---- an address
@@ -68,7 +68,7 @@ module _ (highest : ℕ) (item : Record) where
   abbrev digits : Bool
   digits = allDecimal (item .w0) (item .w1) (item .w2)
 
-  stays-record : highest ≤ highestShort → goodUpTo highest item ≡ true → good item ≡ true
+  pub stays-record : highest ≤ highestShort → goodUpTo highest item ≡ true → good item ≡ true
   unfolding good goodWeighing goodMet
   stays-record most was =
       let parts = and-eq-true-iff (eqb (item .family) 0) _ .0 was in
@@ -182,8 +182,8 @@ higher-added item higher digits = by-kind (weighs item) (higher .weighed)
 
 pub family-added : FamilyAdded
 unfolding good goodWeighing
-family-added item some address digits = (
-  rw (some .weighed, address, digits),
+family-added item some address decimal free = (
+  rw (some .weighed, address, free-readable (weightBytes item) (some .most) decimal free),
   rw (ne-eqb (item .family) 0 (λ e. omega (arith, some .least))),
 )
 
@@ -199,7 +199,7 @@ stays highest most empty = refl
 stays highest most (first bytes {log} size rest was later) = one-more bytes log size ∙ rw (stays-read highest most bytes size rest was, stays highest most later)
 
 pub stays-good : StaysGood
-stays-good highest most log items was = stays highest most was
+stays-good = (λ log items was. stays highestBefore (lit≤ tt) was, λ log items was. stays highestShort (lit≤ tt) was)
 
 -- the first record of a log, and the rest of it
 first-were : (highest : ℕ) (log : List ℕ) (rest : Log) (entry : RecordRead) → readRecord (take 20 log) ≡ entry → ahead entry rest .ending ≡ Good

@@ -14,6 +14,7 @@ use Rattle.refusal.specs.declared.Verdict.the-variants as verdict-as
 use Rattle.room.specs.Writing.{wrote}
 use Rattle.body.specs.declared.addresses.Address.{Address}
 use Rattle.body.specs.declared.addresses.Address.the-variants.{Short}
+use Rattle.body.specs.Addresses.{highestShort}
 use Rattle.body.specs.Body.{codeIn}
 use Rattle.line.specs.Listener.{Heard, fresh, events}
 use Rattle.weight.specs.declared.families.Family.{Family}
@@ -39,27 +40,27 @@ use Rattle.terminal_mode.specs.Modes.{modeOf}
 use Rattle.codes.specs.declared.table.Role.{Role}
 use Rattle.codes.specs.declared.table.Role.the-variants.{Reply}
 use Rattle.codes.specs.declared.table.Load.{Load}
-use Rattle.codes.specs.declared.table.Load.the-variants.{Gross}
+use Rattle.codes.specs.declared.table.Load.the-variants.{Net, Gross}
 use Rattle.codes.specs.declared.table.Row.the-variants as row-as
 use Rattle.codes.specs.Table.{rowOf}
 use Rattle.message.specs.Reading.{readMessage}
 use Rattle.message.specs.Writing.{writtenMessage}
 use Rattle.records.specs.declared.records.Record.{Record}
 use Rattle.records.specs.declared.reading.RecordRead.the-variants as record-read-as
-use Rattle.records.specs.Records.{metKind, weighs}
+use Rattle.records.specs.Records.{metKind, weighs, good}
 use Rattle.records.specs.Layout.{bytesOfRecord}
 use Rattle.records.specs.Reading.{readRecord}
 use Rattle.records.specs.Writing.{writtenRecord}
 use Rattle.records.specs.Weighings.{weightNoted}
 use Rattle.weighing_log.specs.declared.hearing.Noted.the-variants as noted-as
-use Rattle.weighing_log.specs.Hearing.{metOnLine, notedHeard}
+use Rattle.weighing_log.specs.Hearing.{weighing, metOnLine, notedHeard}
 use Rattle.entries.specs.declared.entries.Entry.the-variants as entry-as
 use Rattle.listing.specs.Texts.{spelt, decimal}
 use Rattle.listing.specs.Lines.{line, modeFields, lineOf}
 use Rattle.listing.specs.Writing.{writtenLine}
 use Rattle.listing.specs.Whole.{listing}
 use Rattle.demands.specs.BeforeFamilies.{ReadingBefore, without, inRangeBefore, good as goodBefore, refused as refusedBefore, readBefore, bytes as bytesBefore, packedBefore, valueBefore, differenceBefore, fieldsBefore, ahead, lineBefore}
-use Rattle.demands.specs.LogsFromBefore.{WasGood}
+use Rattle.demands.specs.LogsFromBefore.{highestBefore, WasGood}
 use Rattle.demands.specs.Weighings.{recordsHeard}
 
 -- ---- for a legal reading the promises of today and those of before agree, except in the family and in the line's last field
@@ -89,18 +90,28 @@ PlainLine =
     (reading : Reading) → reading .family ≡ Plain → (number : ℕ) (load : Load) (address : Address)
     → lineOf number (entry-as.Weight load address reading) ≡ lineBefore number load address (without reading)
 
--- and the family touches only weights: what is no reply C2 or C3 reads the same by each
-abbrev pub OnlyWeightsMove : Type 0
-OnlyWeightsMove =
-    (role : Role) (one other : Family) (body : List ℕ) → ((load : Load) → rowOf role (codeIn body) ≡ row-as.Weight load → ⊥)
-    → readMessage role one body ≡ readMessage role other body
+-- and the family touches only weights: what is no reply C2 or C3 reads the same by each, and is written the same
+abbrev pub NoWeight : Role → ℕ → Type 0
+NoWeight role code = (load : Load) → rowOf role code ≡ row-as.Weight load → ⊥
 
--- four bytes read as they did; refused are those that were, those of 002 with bit 6 set, and those whose family does not exist
+pub record OnlyWeightsMove : Type 0 where
+  pub read : (role : Role) (one other : Family) (body : List ℕ) → NoWeight role (codeIn body) → readMessage role one body ≡ readMessage role other body
+  pub written : (role : Role) (one other : Family) (address : Address) (code : ℕ) (data′ room : List ℕ) → NoWeight role code
+      → writtenMessage role one address code data′ room ≡ writtenMessage role other address code data′ room
+
+-- bit 6 set in 002, and a number that names no family
+abbrev pub Reserved : FourBytes → Type 0
+Reserved four = (four .family ≡ familyNumber Of002) × (marked sixth (four .con) ≡ true)
+
+abbrev pub NoFamily : FourBytes → Type 0
+NoFamily four = 3 < four .family
+
+-- four bytes read as they did; refused are those that were, those of 002 with bit 6 set (ReservedUnread), and those whose family does not exist
 pub record ReadsAsBefore (four : FourBytes) : Type 0 where
   pub read : (reading : Reading) → readOf four ≡ read-as.Good reading → readBefore (four .w0) (four .w1) (four .w2) (four .con) ≡ goodBefore (without reading)
   pub refused : (why : Refusal) → readOf four ≡ read-as.Refused why
-      → (readBefore (four .w0) (four .w1) (four .w2) (four .con) ≡ refusedBefore why)
-      ⊎ (((four .family ≡ familyNumber Of002) × (marked sixth (four .con) ≡ true)) ⊎ (3 < four .family))
+      → (readBefore (four .w0) (four .w1) (four .w2) (four .con) ≡ refusedBefore why) ⊎ (Reserved four ⊎ NoFamily four)
+  pub unknown : NoFamily four → readOf four ≡ read-as.Refused FieldOutside
 
 abbrev pub EachReadsAsBefore : Type 0
 EachReadsAsBefore = (four : FourBytes) → ReadsAsBefore four
@@ -128,7 +139,7 @@ abbrev pub ReservedRefused : Type 0
 ReservedRefused = (reading : Reading) → reading .family ≡ Of002 → reading .bit6 ≡ true → RefusedEverywhere reading
 
 abbrev pub ReservedUnread : Type 0
-ReservedUnread = (four : FourBytes) → four .family ≡ familyNumber Of002 → marked sixth (four .con) ≡ true → readOf four ≡ read-as.Refused FieldOutside
+ReservedUnread = (four : FourBytes) → Reserved four → readOf four ≡ read-as.Refused FieldOutside
 
 -- ---- "11 also for byte 17 above 3, not 0 in kind 3, or 3 with status bit 6 set": a record handed in, and bytes
 
@@ -139,6 +150,25 @@ pub record ElevenAlso : Type 0 where
   pub written : (item : Record) (room : List ℕ) → Breaks (item .family) (item .kind) (item .status)
       → writtenRecord item room ≡ wrote (verdict-as.Refused RecordBroken) [] room
   pub read : (bytes : List ℕ) → Breaks (getD bytes 17 0) (getD bytes 8 0) (getD bytes 13 0) → readRecord bytes ≡ record-read-as.Refused RecordBroken
+
+-- byte 17 from 0 to 4: 25.1 kg, gross or net, with a status; and a refusal 4
+abbrev pub weighed : Load → ℕ → ℕ → Record
+weighed load con byte = weighing 0 (Short 1) load (record { w0 = 0x51; w1 = 0x02; w2 = 0x00; con = con; family = byte })
+
+abbrev pub met : ℕ → Record
+met byte = record { time = 0; kind = metKind; address = 0; serial = 0; status = 4; w0 = 0; w1 = 0; w2 = 0; family = byte }
+
+abbrev pub goodWith : (ℕ → Record) → List Bool
+goodWith item = map (λ (byte : ℕ). good (item byte)) (0 ∷ 1 ∷ 2 ∷ 3 ∷ 4 ∷ [])
+
+pub record Byte17Shown : Type 0 where
+  pub gross : goodWith (weighed Gross 0x01) ≡ true ∷ true ∷ true ∷ true ∷ false ∷ []
+  pub gross-sixth : goodWith (weighed Gross 0x41) ≡ true ∷ true ∷ true ∷ false ∷ false ∷ []
+  pub net : goodWith (weighed Net 0x91) ≡ true ∷ true ∷ true ∷ true ∷ false ∷ []
+  pub net-sixth : goodWith (weighed Net 0xD1) ≡ true ∷ true ∷ true ∷ false ∷ false ∷ []
+  pub refusal : goodWith met ≡ true ∷ false ∷ false ∷ false ∷ false ∷ []
+  -- what breaks the rule, each once
+  pub breaks : Breaks 4 1 0x01 × (Breaks 1 3 4 × Breaks 3 2 0x41)
 
 -- ---- the log: a weighing from a line of a family reads back with it, and an old record is plain
 
@@ -154,13 +184,22 @@ FamilyReadsBack =
     (time : ℕ) → time < 2 ^ 64 → (role : Role) (family : Family) (heard : Heard) (item : Record) → notedHeard time role family heard ≡ noted-as.Record item
     → weighs item ≡ true → ReadsBackWith family item
 
+-- an old weighing notes the reading that its bytes were read as, and this is plain
+pub record NotesAsBefore (item : Record) : Type 0 where
+  pub reading : Reading
+  pub noted : weightNoted item ≡ read-as.Good reading
+  pub was : readBefore (item .w0) (item .w1) (item .w2) (item .status) ≡ goodBefore (without reading)
+  pub plain : reading .family ≡ Plain
+
 pub record IsPlain (item : Record) : Type 0 where
   pub number : item .family ≡ familyNumber Plain
-  pub family : (reading : Reading) → weightNoted item ≡ read-as.Good reading → reading .family ≡ Plain
+  pub weighing : weighs item ≡ true → NotesAsBefore item
+
+abbrev pub PlainUnder : ℕ → Type 0
+PlainUnder highest = (log : List ℕ) (items : List Record) → WasGood highest log items → (item : Record) → List·Memᴰ item items → IsPlain item
 
 abbrev pub OldArePlain : Type 0
-OldArePlain =
-    (highest : ℕ) (log : List ℕ) (items : List Record) → WasGood highest log items → (item : Record) → List·Memᴰ item items → IsPlain item
+OldArePlain = PlainUnder highestBefore × PlainUnder highestShort
 
 -- ---- shown: the families, what each answers the loadmaster, and the paper's listing
 
@@ -192,12 +231,16 @@ modesOf bit6 bit5 = map (λ (family : Family). modeOf (of family (withBits bit6 
 abbrev pub linesOf : Bool → Bool → List (List ℕ)
 linesOf bit6 bit5 = map (λ (family : Family). lineOf 1 (entry-as.Weight Gross (Short 1) (of family (withBits bit6 bit5)))) families
 
--- E3 with bit 6 of its status set, on a line
+-- E3 with bit 6 of its status set, on a line; and with bit 5
 abbrev pub sixthOnLine : List ℕ
 sixthOnLine = 0xFF ∷ 0x01 ∷ 0xC3 ∷ 0x51 ∷ 0x02 ∷ 0x00 ∷ 0x41 ∷ 0x30 ∷ 0xFF ∷ 0xFF ∷ []
 
-abbrev pub listedBy : Family → List ℕ
-listedBy family = listing family (events fresh sixthOnLine)
+abbrev pub fifthOnLine : List ℕ
+fifthOnLine = 0xFF ∷ 0x01 ∷ 0xC3 ∷ 0x51 ∷ 0x02 ∷ 0x00 ∷ 0x21 ∷ 0xA9 ∷ 0xFF ∷ 0xFF ∷ []
+
+-- the listing of a wire by all four families
+abbrev pub listedByEach : List ℕ → List (List ℕ)
+listedByEach wire = map (λ (family : Family). listing family (events fresh wire)) families
 
 -- the verdict of writing it, with room enough
 abbrev pub writtenBy : Family → Verdict
@@ -232,6 +275,13 @@ pub record FamiliesShown : Type 0 where
       linesOf false false
       ≡ spelt "1 weight gross 1 + 000251 1 0 0\n" ∷ spelt "1 weight gross 1 + 000251 1 0 0 gross\n"
       ∷ spelt "1 weight gross 1 + 000251 1 0 0 scale0\n" ∷ spelt "1 weight gross 1 + 000251 1 0 0 gross\n" ∷ []
+  -- and from the wire
+  pub fifth-heard :
+      listedByEach fifthOnLine
+      ≡ spelt "1 weight gross 1 + 000251 1 0 0\ntotal 1 weights 1 refused 0\n"
+      ∷ spelt "1 weight gross 1 + 000251 1 0 0 net\ntotal 1 weights 1 refused 0\n"
+      ∷ spelt "1 weight gross 1 + 000251 1 0 0 scale1\ntotal 1 weights 1 refused 0\n"
+      ∷ spelt "1 weight gross 1 + 000251 1 0 0 net\ntotal 1 weights 1 refused 0\n" ∷ []
   -- the paper's listing: bit 5 is 0 in both weights
   pub listed :
       listing Of002 (events fresh paperCapture)
@@ -242,7 +292,7 @@ pub record SixthShown : Type 0 where
   pub noted : recordsHeard (λ (number : ℕ). number) Reply Of002 (events fresh sixthOnLine) ≡ metOnLine 1 8 ∷ []
   pub written : map writtenBy families ≡ verdict-as.Good ∷ verdict-as.Good ∷ verdict-as.Good ∷ verdict-as.Refused FieldOutside ∷ []
   pub listed :
-      map listedBy families
+      listedByEach sixthOnLine
       ≡ spelt "1 weight gross 1 + 000251 1 0 0\ntotal 1 weights 1 refused 0\n"
       ∷ spelt "1 weight gross 1 + 000251 1 0 0 gross\ntotal 1 weights 1 refused 0\n"
       ∷ spelt "1 weight gross 1 + 000251 1 0 0 scale0\ntotal 1 weights 1 refused 0\n"

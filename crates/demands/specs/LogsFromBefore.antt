@@ -8,11 +8,11 @@ use mathlib.Core.Logic.{_⊎_}
 use lib.Dec.{leb, eqb}
 use lib.ListN.{length}
 use Rattle.refusal.specs.declared.Verdict.the-variants.{Good}
-use Rattle.refusal.specs.Numbers.{lineStatus}
 use Rattle.body.specs.declared.addresses.Address.the-variants.{Short}
 use Rattle.body.specs.Addresses.{highestShort}
 use Rattle.weight.specs.declared.families.Family.the-variants.{Plain}
 use Rattle.weight.specs.Digits.{allDecimal}
+use Rattle.weight.specs.Status.{sixth, marked}
 use Rattle.weight.specs.Bytes.{readable}
 use Rattle.codes.specs.declared.table.Load.the-variants.{Gross}
 use Rattle.records.specs.declared.records.Record.{Record}
@@ -35,7 +35,7 @@ goodWeighingUpTo highest item = goodAddressUpTo highest item && allDecimal (item
 
 -- "status 1 to 8, bytes 9–12 and 14–16 zero"
 abbrev pub goodMetBefore : Record → Bool
-goodMetBefore item = lineStatus (item .status) && noAddress item && weightZero item
+goodMetBefore item = leb 1 (item .status) && leb (item .status) 8 && noAddress item && weightZero item
 
 -- and byte 17 zero. The rest of 01's layout is that of today; a request that moves it keeps 01's here
 abbrev pub goodUpTo : ℕ → Record → Bool
@@ -47,11 +47,12 @@ pub data WasGood (highest : ℕ) : List ℕ → List Record → Type 0 where
   first : (bytes : List ℕ) {log : List ℕ} {items : List Record} → length bytes ≡ recordBytes → restZero bytes ≡ true
       → goodUpTo highest (recordIn bytes) ≡ true → WasGood highest log items → WasGood highest (bytes ++ log) (recordIn bytes ∷ items)
 
+abbrev pub StayGoodUnder : ℕ → Type 0
+StayGoodUnder highest = (log : List ℕ) (items : List Record) → WasGood highest log items → wholeLog log ≡ record { records = items; ending = Good }
+
 -- under 01's limit and under request 1's
 abbrev pub StaysGood : Type 0
-StaysGood =
-    (highest : ℕ) → highest ≤ highestShort → (log : List ℕ) (items : List Record) → WasGood highest log items
-    → wholeLog log ≡ record { records = items; ending = Good }
+StaysGood = StayGoodUnder highestBefore × StayGoodUnder highestShort
 
 -- and no log is left out of WasGood: one that is whole now, each of whose records was good, was good
 abbrev pub EachBefore : ℕ → List Record → Type 0
@@ -95,8 +96,11 @@ OnlyFamilies = (item : Record) → good item ≡ true → (goodUpTo highestShort
 abbrev pub HigherAdded : Type 0
 HigherAdded = (item : Record) → FromHigher item → readable (readingIn item) ≡ true → (good item ≡ true) × (goodUpTo highestBefore item ≡ false)
 
+-- "1 to 3 for 000 to 002": each of them, with right digits and, under 3, with bit 6 clear
 abbrev pub FamilyAdded : Type 0
-FamilyAdded = (item : Record) → WithFamily item → goodAddress item ≡ true → readable (readingIn item) ≡ true → (good item ≡ true) × (goodUpTo highestShort item ≡ false)
+FamilyAdded =
+    (item : Record) → WithFamily item → goodAddress item ≡ true → allDecimal (item .w0) (item .w1) (item .w2) ≡ true
+    → (item .family ≡ 3 → marked sixth (item .status) ≡ false) → (good item ≡ true) × (goodUpTo highestShort item ≡ false)
 
 -- the same gross reply from both ends of the old range, from both ends of what was added, and from beyond
 abbrev pub grossFrom : ℕ → Record

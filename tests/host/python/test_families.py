@@ -3,12 +3,13 @@ there were families."""
 from __future__ import annotations
 
 import ctypes
+import dataclasses
 import importlib.util
 import io
 import re
 import unittest
 from fractions import Fraction
-from typing import Iterator, Optional, Tuple
+from typing import Any, Callable, Iterator, Optional, Tuple
 
 import binding  # puts the binding's folder and the model's on the path
 import cases_log
@@ -19,6 +20,7 @@ import listing
 import log
 import message
 import quay
+import quay_family
 import quay_library
 import weight
 from test_quay import RefusedCase, heard
@@ -28,6 +30,12 @@ ONE = quay.Address(1)
 WEIGHTS = (0xC2, 0xC3)
 STRANGE = (4, 5, 255)
 NOT_EVEN_BYTES = (-1, 256, 259)
+
+# What is equal to a family's number or is written like one, and is none.
+NO_FAMILIES = (0, 1, 2, 3, False, True, *quay.Role, *quay.Load, 3.0, '', '2', '002', 'OF_002', 'plain', b'\x03', None, ONE, quay.Family)
+NO_ROLES = (0, 1, False, True, *quay.Family, *quay.Load, 1.0, '', 'reply', 'REPLY', b'\x01', None, quay.Role)
+
+Call = Tuple[Callable[..., Any], Tuple[Any, ...]]
 
 
 def every_mix() -> Iterator[Tuple[quay.Family, bytes]]:
@@ -41,6 +49,27 @@ def frame_of(code: int, four: bytes, family: quay.Family) -> quay.Frame:
     """A weight as it was heard on a line of a family. Any frame can be written, right for the family or not."""
     heard_frame, = heard([quay.write_frame(ONE, code, four)], family)
     return heard_frame
+
+
+def calls_saying_a_family(said: Any) -> Tuple[Call, ...]:
+    """Every call that is told a family, right in all but, perhaps, the family."""
+    four = DIGITS + b'\x01'
+    heard_frame = frame_of(0xC3, four, quay.Family.OF_002)
+    body, event = heard_frame.body, dataclasses.replace(heard_frame, family=said)
+    reading = dataclasses.replace(quay.Weight.from_bytes(four, quay.Family.OF_002).reading, family=said)
+    return (
+        (quay.Reader, (said,)), (quay.Weight, (*four, said)), (quay.Weight.from_bytes, (four, said)), (quay.read_message, (body, said)),
+        (quay.read_message, (body, said, quay.Role.REPLY)), (quay.write_message, (quay.Role.REPLY, said, ONE, 0xC3, four)),
+        (quay.record_heard, (0, event)), (quay.list_event, (1, event)), (quay_family.mode_of, (said, True)), (getattr, (reading, 'mode')))
+
+
+def calls_saying_a_role(said: Any) -> Tuple[Call, ...]:
+    """Every call that is told a role, right in all but, perhaps, the role: a body that both may say."""
+    family = quay.Family.OF_002
+    event = frame_of(0xBF, b'\x13', family)
+    return (
+        (quay.read_message, (event.body, family, said)), (quay.write_message, (said, family, ONE, 0xBF, b'\x13')),
+        (quay.record_heard, (0, event, said)), (quay.record_heard, (0, quay.LineRefusal(4, 6, 3), said)))
 
 
 def model_mode(reading: weight.Reading) -> Optional[str]:
@@ -60,16 +89,9 @@ class TheFamilies(RefusedCase):
         self.assertEqual(named, [(family.word.upper(), str(int(family))) for family in quay.Family])
 
     def test_no_other_number_is_one_and_none_becomes_plain(self) -> None:
-        body = frame_of(0xC3, DIGITS + b'\x01', quay.Family.OF_002).body
         for number in (*STRANGE, *NOT_EVEN_BYTES):
-            strange = quay.Frame(10, 7, body, number)
-            for call, arguments in (
-                    (quay.Family, (number,)), (quay.Reader, (number,)), (quay.Weight, (0, 0, 0, 0, number)),
-                    (quay.Weight.from_bytes, (bytes(4), number)), (quay.read_message, (body, number)),
-                    (quay.write_message, (quay.Role.REQUEST, number, ONE, 0xC3)), (quay.record_heard, (0, strange)),
-                    (quay.list_event, (1, strange))):
-                with self.assertRaises(ValueError, msg=f'{call} {number}'):
-                    call(*arguments)
+            with self.assertRaises(ValueError, msg=number):
+                quay.Family(number)
 
     def test_the_library_itself_refuses_such_a_number_by_8_in_every_function_that_takes_one(self) -> None:
         body, room = frame_of(0xC3, DIGITS + b'\x01', quay.Family.OF_002).body, ctypes.create_string_buffer(512)
@@ -100,6 +122,34 @@ class TheFamilies(RefusedCase):
             self.assertIs(reader.family, family)
             told, = reader.feed(quay.write_frame(ONE, 0xC3, DIGITS + b'\x01'))
             self.assertIs(told.family, family)
+
+
+class SaidByName(unittest.TestCase):
+    """A family and a role are said by their names, and by nothing that is equal to their numbers."""
+
+    def not_taken(self, reason: str, calls: Tuple[Call, ...]) -> None:
+        for call, arguments in calls:
+            with self.assertRaisesRegex(TypeError, reason, msg=f'{call} {arguments}'):
+                call(*arguments)
+
+    def test_a_family(self) -> None:
+        for family in quay.Family:
+            for call, arguments in calls_saying_a_family(family):
+                call(*arguments)
+        for said in (*NO_FAMILIES, *STRANGE, *NOT_EVEN_BYTES):
+            self.not_taken('is not a family: say it by its name', calls_saying_a_family(said))
+
+    def test_a_role(self) -> None:
+        for role in quay.Role:
+            for call, arguments in calls_saying_a_role(role):
+                call(*arguments)
+        for said in NO_ROLES:
+            self.not_taken('is not a role: say it by its name', calls_saying_a_role(said))
+
+    def test_a_call_from_before_there_were_families_raises(self) -> None:
+        role, four = quay.Role.REPLY, DIGITS + b'\x01'
+        body = frame_of(0xC3, four, quay.Family.OF_002).body
+        self.not_taken('is not a family', ((quay.read_message, (body, role)), (quay.write_message, (role, ONE, 0xC3, four))))
 
 
 class BothBits(RefusedCase):
