@@ -15,7 +15,7 @@ use Rattle.terminal_mode.specs.declared.Mode.{Mode}
 use Rattle.terminal_mode.specs.declared.ModeTold.{ModeTold}
 use Rattle.terminal_mode.specs.declared.ModeTold.the-variants as told-as
 
--- whether two bits are called the same
+-- a number for each name, so that two names can be compared
 abbrev pub rank : Called → ℕ
 rank plainBit = 0
 rank keyCode = 1
@@ -24,6 +24,7 @@ rank event = 3
 rank scaleNumber = 4
 rank reserved = 5
 
+-- whether two bits are called the same
 abbrev pub same : Called → Called → Bool
 same a b = eqb (rank a) (rank b)
 
