@@ -74,7 +74,8 @@ enum { QUAY_REQUEST = 0, QUAY_REPLY = 1 }; /* role */
  *  - plain: a record from before there were families. Neither bit has a meaning, and neither is judged.
  * Any other number is refused by 8, in a record by 11. A family's number is one above its document's: QUAY_FAMILY_002 is 3, and a literal 2 is 001,
  * which nothing refuses. Use the names. Plain is 0. So an initialiser that leaves `family` out says plain, and bit 6 of a terminal of 002 is not
- * judged then. Say the family of the line wherever a struct or a call has one. */
+ * judged then. Say the family of the line wherever a struct or a call has one, but not in a record of kind 3: a refusal has none, and its family is
+ * QUAY_FAMILY_PLAIN. */
 enum { QUAY_FAMILY_PLAIN = 0, QUAY_FAMILY_000 = 1, QUAY_FAMILY_001 = 2, QUAY_FAMILY_002 = 3 };
 
 enum { QUAY_GROSS = 1, QUAY_NET = 2 }; /* QuayWhat.load; 0 where no weight is said */
@@ -253,7 +254,7 @@ QuayKilograms quay_kilograms(QuayWeight weight);
 /* ---- the log */
 
 /* Writes a record's 20 bytes. In a record of kind 3 the weight bytes FF FF FF and 00 00 00 both stand for the zeros that it has on disk.
- * Refusals: 11 (a record that breaks a rule, kind 0, or one that carries a refusal), 9, in this order. */
+ * Refusals: 11 (a record that breaks a rule, as a family in kind 3, kind 0, or one that carries a refusal), 9, in this order. */
 QuayWritten quay_write_record(QuayRecord item, uint8_t *room, size_t room_length);
 
 /* Reads a record of 20 bytes. Refusal: 11, also for more bytes or fewer. A refusal 5 in a log from before came from a

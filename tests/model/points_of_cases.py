@@ -245,7 +245,7 @@ def words_listed(family, wire):
 def test_samples_by_family(expect):
     """Each listing of samples/ by its own family: the words that end its weights,
     and no refusal 8, which a bit 6 of 002 would be."""
-    words = {'morning': {'gross', 'net'}, 'older': {'gross'}, 'platforms': {'scale0', 'scale1'}}
+    words = {'morning': {'gross'}, 'older': {'gross', 'net'}, 'platforms': {'scale0', 'scale1'}}
     expect('samples', [name for name, *_ in SAMPLES], list(words))
     for name, wire, family in SAMPLES:
         lines = words_listed(family, wire())
@@ -253,10 +253,10 @@ def test_samples_by_family(expect):
         expect(name, [line for line in lines if line[1:] == ['refused', '8']], [])
 
 
-def test_morning_sample(expect):
-    """samples/morning: a net weight in net mode, and one in gross mode."""
-    expect('morning', {line[-1] for line in words_listed(OF_002, morning()) if line[1:3] == ['weight', 'net']},
-           {'gross', 'net'})
+def test_net_mode_sample(expect):
+    """samples/older: a net weight in net mode, and one in gross mode."""
+    expect('older', {line[-1] for line in words_listed(OF_000, older()) if line[1:3] == ['weight', 'net']},
+           {'net', 'gross'})
 
 
 def test_platforms_sample(expect):
@@ -381,6 +381,6 @@ def test_walks_meet_everything(expect):
 
 
 TESTS = (test_every_layer_is_asked, test_every_family_is_asked, test_every_row_in_every_family,
-         test_family_answers, test_older_sample, test_samples_by_family, test_morning_sample,
+         test_family_answers, test_older_sample, test_samples_by_family, test_net_mode_sample,
          test_platforms_sample, test_walkers_start_everywhere,
          test_small_captures_from_every_place, test_lent_bytes_are_marked, test_walks_meet_everything)

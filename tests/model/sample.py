@@ -38,7 +38,7 @@ def morning():
         lorry[5:],                                          # joined late: no frame, and no refusal
         weighed(LANE_1, 0xC3, 18_460, 0x00),                # still rolling
         weighed(LANE_1, 0xC3, 18_440, 0x10),
-        weighed(LANE_1, 0xC2, 4_280, 0x30),                 # its freight, in net mode
+        weighed(LANE_1, 0xC2, 4_280, 0x10),                 # its freight; 002 has no net mode of weighing
         SILENCE,
         weighed(LANE_2, 0xC3, 12_345, 0x11),                # one digit behind the point
         damaged(weighed(LANE_2, 0xC3, 40_960, 0x10), 4, 8),  # the ramp motor starts: a wrong check
@@ -46,7 +46,7 @@ def morning():
         weighed(LANE_2, 0xC3, 40_960, 0x18),                # overloaded
         frame_of(body_of(RAMP, 0xA1, b'\x65\x13\x01')),     # a serial number
         frame_of(body_of(RAMP, 0xC4, b'\x0f\x00\x00\x80')),  # the inputs
-        weighed(RAMP, 0xC2, 0, 0x90),                       # minus zero, in gross mode: a weight of nothing that was heard
+        weighed(RAMP, 0xC2, 0, 0x90),                       # minus zero, settled: a weight of nothing that was heard
         frame_of(body_of(LANE_1, 0xC3, b'')),               # the poll itself, echoed
         bytes([0xFF, 0x01, 0xFF, 0xFF]),                    # a body of one byte
         bytes([0xFF, 0xC3, 0x01, 0xFF, 0x42]),              # a byte that is neither FE nor FF behind an FF
@@ -64,7 +64,7 @@ def older():
         serial[3:],                                         # joined at an FF with its FE: no frame, and no refusal
         weighed(NORTH, 0xC3, 31_960, 0x00),                 # still rolling
         weighed(NORTH, 0xC3, 31_980, 0x10),
-        weighed(NORTH, 0xC2, 17_220, 0x10),                 # its freight
+        weighed(NORTH, 0xC2, 17_220, 0x30),                 # its freight, in net mode
         weighed(SOUTH, 0xC3, 81_495, 0x11),                 # one digit behind the point
         weighed(SOUTH, 0xC2, 45_815, 0x11),                 # the check is FF: it has an FE behind it
         SILENCE,

@@ -47,8 +47,8 @@ use Rattle.weighing_log.proofs.Heard.{refusal-kind}
 use Rattle.weighing_log.proofs.Weighings.{heard as weighing-heard}
 use Rattle.listing.specs.Writing.{writtenLine}
 use Rattle.demands.specs.BeforeFamilies.{without, inRangeBefore, ReadBefore, good as goodBefore, refused as refusedBefore, readBefore}
-use Rattle.demands.specs.Families.{LegalAsBefore, LegalWhereBefore, Reserved, NoFamily, EachReadsAsBefore, ComeBack, ReservedRefused, ReservedUnread, Breaks, ElevenAlso, FamilyReadsBack, IsPlain, OldArePlain, PlainLine}
-use Rattle.demands.specs.LogsFromBefore.{highestBefore, goodUpTo, WasGood, empty, first}
+use Rattle.demands.specs.Families.{LegalAsBefore, LegalWhereBefore, Reserved, UnknownFamily, EachReadsAsBefore, ComeBack, ReservedRefused, ReservedUnread, Breaks, ElevenAlso, FamilyReadsBack, IsPlain, OldArePlain, PlainLine}
+use Rattle.demands.specs.LogsFromBefore.{highestBefore, highestSince, goodUpTo, WasGood, empty, first}
 use Rattle.demands.proofs.ByFamily.{same-family, digits, bit, so-reads, read-by, read-of, read-family, above-unread, reserved-unread, refused-by-8}
 use Rattle.demands.proofs.Logs.{noted-good}
 use Rattle.demands.proofs.LogsFromBefore.{stays-record}
@@ -125,11 +125,11 @@ module _ (four : FourBytes) where
   read-was reading e = let by = read-by four reading e in rw (by .so .decimal, by .so .is)
 
   refused-was : (why : Refusal) → readOf four ≡ read-as.Refused why
-      → (before ≡ refusedBefore why) ⊎ (Reserved four ⊎ NoFamily four)
+      → (before ≡ refusedBefore why) ⊎ (Reserved four ⊎ UnknownFamily four)
   refused-was why e = by-digits (digits Plain four) refl (familyNamed (four .family)) refl
     where
       by-bit : (family : Family) → familyNamed (four .family) ≡ named-as.Family family → digits Plain four ≡ true → (clear′ : Bool) → bit family four ≡ clear′
-          → (before ≡ refusedBefore why) ⊎ (Reserved four ⊎ NoFamily four)
+          → (before ≡ refusedBefore why) ⊎ (Reserved four ⊎ UnknownFamily four)
       by-bit family is decimal true clear′ =
           let number = named-number (four .family) family is in
           let reads = read-of four family (sym number) ∙ so-reads family four decimal clear′ in
@@ -139,7 +139,7 @@ module _ (four : FourBytes) where
           inr (inl (sym (named-number (four .family) family is) ∙ reserved .0, reserved .1))
 
       by-digits : (decimal : Bool) → digits Plain four ≡ decimal → (named : FamilyNamed) → familyNamed (four .family) ≡ named
-          → (before ≡ refusedBefore why) ⊎ (Reserved four ⊎ NoFamily four)
+          → (before ≡ refusedBefore why) ⊎ (Reserved four ⊎ UnknownFamily four)
       by-digits false none named is = inl (rw (none, refused-by-8 four why e))
       by-digits true decimal (named-as.Family family) is = by-bit family is decimal (bit family four) refl
       by-digits true decimal named-as.Unknown is = inr (inr (unknown-above (four .family) is))
@@ -294,5 +294,5 @@ is-plain highest most item was =
 pub old-are-plain : OldArePlain
 old-are-plain = (
   λ log items was item among. is-plain highestBefore (lit≤ tt) item (each-was was item among),
-  λ log items was item among. is-plain highestShort (lit≤ tt) item (each-was was item among),
+  λ log items was item among. is-plain highestSince (lit≤ tt) item (each-was was item among),
 )

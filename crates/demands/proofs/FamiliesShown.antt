@@ -25,7 +25,7 @@ use Rattle.meaning.specs.Judging.{judgedCode, judgedData, judgedMessage}
 use Rattle.message.specs.Reading.{messageOf, readMessage, readIf}
 use Rattle.message.specs.Writing.{judgedMessageWrite, writtenMessage}
 use Rattle.records.specs.Records.{addressOf, goodAddress, goodWeighing, goodMet, good}
-use Rattle.weighing_log.specs.Hearing.{metRecord, recordOf}
+use Rattle.weighing_log.specs.Hearing.{weighedRecord, metRecord, recordOf}
 use Rattle.entries.specs.Entries.{entryHeard}
 use Rattle.listing.specs.Texts.{decimal, decimalIn}
 use Rattle.listing.specs.Whole.{listing}
@@ -35,10 +35,10 @@ use Rattle.demands.specs.Families.{OnlyWeightsMove, Byte17Shown, Familie
 pub families-shown : FamiliesShown
 unfolding modeOf inRange listing entryHeard decimal decimalIn events heardThen hear hearIn keep ended tick readMessage readIf messageOf judgedMessage judgedCode judgedData rowOf lineOf lineIn fourIn readOf readAs familyNamed namedIn judgedLent judged short received feedAll feedByte feedBits shiftIn legal addressIn lowFirst addressLength codeIn dataIn
 families-shown =
-    record { numbers = refl; none-set = refl; fifth-set = refl; sixth-set = refl; fifth-lists = refl; none-lists = refl; fifth-heard = refl; listed = refl }
+    record { numbers = refl; none-set = refl; fifth-set = refl; sixth-set = refl; both-set = refl; fifth-lists = refl; none-lists = refl; fifth-heard = refl; listed = refl }
 
 pub sixth-shown : SixthShown
-unfolding recordsFrom recordOf metRecord writtenMessage judgedMessageWrite bodyOf unchecked addressBytes lowBytes checkOf needed countFF listing entryHeard decimal decimalIn events heardThen hear hearIn keep ended tick readMessage readIf messageOf judgedMessage judgedCode judgedData rowOf lineOf lineIn fourIn readOf readAs familyNamed namedIn judgedLent judged short received feedAll feedByte feedBits shiftIn legal addressIn lowFirst addressLength codeIn dataIn
+unfolding recordsFrom recordOf weighedRecord metRecord good goodWeighing goodAddress addressOf writtenMessage judgedMessageWrite bodyOf unchecked addressBytes lowBytes checkOf needed countFF listing entryHeard decimal decimalIn events heardThen hear hearIn keep ended tick readMessage readIf messageOf judgedMessage judgedCode judgedData rowOf lineOf lineIn fourIn readOf readAs familyNamed namedIn judgedLent judged short received feedAll feedByte feedBits shiftIn legal addressIn lowFirst addressLength codeIn dataIn
 sixth-shown = record { noted = refl; written = refl; listed = refl }
 
 pub byte-17-shown : Byte17Shown

@@ -30,7 +30,7 @@ use Rattle.records.proofs.Rules.{met-bare, met-family, read-is, read-length, re
 use Rattle.records.proofs.Unweighed.{else-met}
 use Rattle.weighing_log.specs.Hearing.{metOnLine}
 use Rattle.demands.proofs.ByFamily.{plain-readable, free-readable, readable-family}
-use Rattle.demands.specs.LogsFromBefore.{highestBefore, goodAddressUpTo, goodWeighingUpTo, goodMetBefore, goodUpTo, WasGood, empty, first, StaysGood, EachBefore, WereGood, FiveStaysGood, FromHigher, WithFamily, OnlyThese, OnlyFamilies, HigherAdded, FamilyAdded, Moved}
+use Rattle.demands.specs.LogsFromBefore.{highestBefore, highestSince, goodAddressUpTo, goodWeighingUpTo, goodMetBefore, goodUpTo, WasGood, empty, first, StaysGood, EachBefore, WereGood, FiveStaysGood, FromHigher, WithFamily, OnlyThese, OnlyFamilies, HigherAdded, FamilyAdded, Moved}
 
 -- ---- an address
 
@@ -199,7 +199,7 @@ stays highest most empty = refl
 stays highest most (first bytes {log} size rest was later) = one-more bytes log size ∙ rw (stays-read highest most bytes size rest was, stays highest most later)
 
 pub stays-good : StaysGood
-stays-good = (λ log items was. stays highestBefore (lit≤ tt) was, λ log items was. stays highestShort (lit≤ tt) was)
+stays-good = (λ log items was. stays highestBefore (lit≤ tt) was, λ log items was. stays highestSince (lit≤ tt) was)
 
 -- the first record of a log, and the rest of it
 first-were : (highest : ℕ) (log : List ℕ) (rest : Log) (entry : RecordRead) → readRecord (take 20 log) ≡ entry → ahead entry rest .ending ≡ Good
@@ -256,4 +256,4 @@ five-stays-good time small = record { before = was time small; now = stays highe
 
 pub moved : Moved
 unfolding good goodWeighing goodAddress addressOf legal readOf readAs familyNamed namedIn
-moved = record { before = refl; now = refl }
+moved = record { before = refl; since = refl; now = refl }

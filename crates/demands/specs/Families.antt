@@ -14,7 +14,6 @@ use Rattle.refusal.specs.declared.Verdict.the-variants as verdict-as
 use Rattle.room.specs.Writing.{wrote}
 use Rattle.body.specs.declared.addresses.Address.{Address}
 use Rattle.body.specs.declared.addresses.Address.the-variants.{Short}
-use Rattle.body.specs.Addresses.{highestShort}
 use Rattle.body.specs.Body.{codeIn}
 use Rattle.line.specs.Listener.{Heard, fresh, events}
 use Rattle.weight.specs.declared.families.Family.{Family}
@@ -60,7 +59,7 @@ use Rattle.listing.specs.Lines.{line, modeFields, lineOf}
 use Rattle.listing.specs.Writing.{writtenLine}
 use Rattle.listing.specs.Whole.{listing}
 use Rattle.demands.specs.BeforeFamilies.{ReadingBefore, without, inRangeBefore, good as goodBefore, refused as refusedBefore, readBefore, bytes as bytesBefore, packedBefore, valueBefore, differenceBefore, fieldsBefore, ahead, lineBefore}
-use Rattle.demands.specs.LogsFromBefore.{highestBefore, WasGood}
+use Rattle.demands.specs.LogsFromBefore.{highestBefore, highestSince, WasGood}
 use Rattle.demands.specs.Weighings.{recordsHeard}
 
 -- ---- for a legal reading the promises of today and those of before agree, except in the family and in the line's last field
@@ -103,15 +102,15 @@ pub record OnlyWeightsMove : Type 0 where
 abbrev pub Reserved : FourBytes → Type 0
 Reserved four = (four .family ≡ familyNumber Of002) × (marked sixth (four .con) ≡ true)
 
-abbrev pub NoFamily : FourBytes → Type 0
-NoFamily four = 3 < four .family
+abbrev pub UnknownFamily : FourBytes → Type 0
+UnknownFamily four = 3 < four .family
 
 -- four bytes read as they did; refused are those that were, those of 002 with bit 6 set (ReservedUnread), and those whose family does not exist
 pub record ReadsAsBefore (four : FourBytes) : Type 0 where
   pub read : (reading : Reading) → readOf four ≡ read-as.Good reading → readBefore (four .w0) (four .w1) (four .w2) (four .con) ≡ goodBefore (without reading)
   pub refused : (why : Refusal) → readOf four ≡ read-as.Refused why
-      → (readBefore (four .w0) (four .w1) (four .w2) (four .con) ≡ refusedBefore why) ⊎ (Reserved four ⊎ NoFamily four)
-  pub unknown : NoFamily four → readOf four ≡ read-as.Refused FieldOutside
+      → (readBefore (four .w0) (four .w1) (four .w2) (four .con) ≡ refusedBefore why) ⊎ (Reserved four ⊎ UnknownFamily four)
+  pub unknown : UnknownFamily four → readOf four ≡ read-as.Refused FieldOutside
 
 abbrev pub EachReadsAsBefore : Type 0
 EachReadsAsBefore = (four : FourBytes) → ReadsAsBefore four
@@ -146,29 +145,37 @@ ReservedUnread = (four : FourBytes) → Reserved four → readOf four ≡ read-a
 abbrev pub Breaks : ℕ → ℕ → ℕ → Type 0
 Breaks family kind status = (3 < family) ⊎ (((kind ≡ metKind) × (0 < family)) ⊎ ((family ≡ familyNumber Of002) × (marked sixth status ≡ true)))
 
+-- of 20 bytes: byte 17 is the family, 8 the kind, 13 the status
+abbrev pub BreaksIn : List ℕ → Type 0
+BreaksIn bytes = Breaks (getD bytes 17 0) (getD bytes 8 0) (getD bytes 13 0)
+
 pub record ElevenAlso : Type 0 where
   pub written : (item : Record) (room : List ℕ) → Breaks (item .family) (item .kind) (item .status)
       → writtenRecord item room ≡ wrote (verdict-as.Refused RecordBroken) [] room
-  pub read : (bytes : List ℕ) → Breaks (getD bytes 17 0) (getD bytes 8 0) (getD bytes 13 0) → readRecord bytes ≡ record-read-as.Refused RecordBroken
+  pub read : (bytes : List ℕ) → BreaksIn bytes → readRecord bytes ≡ record-read-as.Refused RecordBroken
 
 -- byte 17 from 0 to 4: 25.1 kg, gross or net, with a status; and a refusal 4
-abbrev pub weighed : Load → ℕ → ℕ → Record
-weighed load con byte = weighing 0 (Short 1) load (record { w0 = 0x51; w1 = 0x02; w2 = 0x00; con = con; family = byte })
+abbrev pub weighed : ℕ → Load → ℕ → ℕ → Record
+weighed time load con byte = weighing time (Short 1) load (record { w0 = 0x51; w1 = 0x02; w2 = 0x00; con = con; family = byte })
 
 abbrev pub met : ℕ → Record
 met byte = record { time = 0; kind = metKind; address = 0; serial = 0; status = 4; w0 = 0; w1 = 0; w2 = 0; family = byte }
+
+-- 20 bytes with a kind, a status and byte 17
+abbrev pub twentyOf : ℕ → ℕ → ℕ → List ℕ
+twentyOf kind status byte = replicate 8 0 ++ (kind ∷ replicate 4 0 ++ (status ∷ replicate 3 0 ++ (byte ∷ 0 ∷ 0 ∷ [])))
 
 abbrev pub goodWith : (ℕ → Record) → List Bool
 goodWith item = map (λ (byte : ℕ). good (item byte)) (0 ∷ 1 ∷ 2 ∷ 3 ∷ 4 ∷ [])
 
 pub record Byte17Shown : Type 0 where
-  pub gross : goodWith (weighed Gross 0x01) ≡ true ∷ true ∷ true ∷ true ∷ false ∷ []
-  pub gross-sixth : goodWith (weighed Gross 0x41) ≡ true ∷ true ∷ true ∷ false ∷ false ∷ []
-  pub net : goodWith (weighed Net 0x91) ≡ true ∷ true ∷ true ∷ true ∷ false ∷ []
-  pub net-sixth : goodWith (weighed Net 0xD1) ≡ true ∷ true ∷ true ∷ false ∷ false ∷ []
+  pub gross : goodWith (weighed 0 Gross 0x01) ≡ true ∷ true ∷ true ∷ true ∷ false ∷ []
+  pub gross-sixth : goodWith (weighed 0 Gross 0x41) ≡ true ∷ true ∷ true ∷ false ∷ false ∷ []
+  pub net : goodWith (weighed 0 Net 0x91) ≡ true ∷ true ∷ true ∷ true ∷ false ∷ []
+  pub net-sixth : goodWith (weighed 0 Net 0xD1) ≡ true ∷ true ∷ true ∷ false ∷ false ∷ []
   pub refusal : goodWith met ≡ true ∷ false ∷ false ∷ false ∷ false ∷ []
-  -- what breaks the rule, each once
-  pub breaks : Breaks 4 1 0x01 × (Breaks 1 3 4 × Breaks 3 2 0x41)
+  -- what breaks the rule, each once, as bytes of a log
+  pub breaks : BreaksIn (twentyOf 1 0x01 4) × (BreaksIn (twentyOf 3 4 1) × BreaksIn (twentyOf 2 0x41 3))
 
 -- ---- the log: a weighing from a line of a family reads back with it, and an old record is plain
 
@@ -199,7 +206,7 @@ abbrev pub PlainUnder : ℕ → Type 0
 PlainUnder highest = (log : List ℕ) (items : List Record) → WasGood highest log items → (item : Record) → List·Memᴰ item items → IsPlain item
 
 abbrev pub OldArePlain : Type 0
-OldArePlain = PlainUnder highestBefore × PlainUnder highestShort
+OldArePlain = PlainUnder highestBefore × PlainUnder highestSince
 
 -- ---- shown: the families, what each answers the loadmaster, and the paper's listing
 
@@ -267,6 +274,10 @@ pub record FamiliesShown : Type 0 where
       modesOf true false
       ≡ answers NoSuchBit platform-as.NoSuchBit NoSuchBit NoSuchBit ∷ answers No platform-as.NoSuchBit Yes NoSuchBit
       ∷ answers NoSuchBit (platform-as.Scale 0) NoSuchBit Yes ∷ told-as.Refused FieldOutside ∷ []
+  pub both-set :
+      modesOf true true
+      ≡ answers NoSuchBit platform-as.NoSuchBit NoSuchBit NoSuchBit ∷ answers Yes platform-as.NoSuchBit Yes NoSuchBit
+      ∷ answers NoSuchBit (platform-as.Scale 1) NoSuchBit Yes ∷ told-as.Refused FieldOutside ∷ []
   pub fifth-lists :
       linesOf false true
       ≡ spelt "1 weight gross 1 + 000251 1 0 0\n" ∷ spelt "1 weight gross 1 + 000251 1 0 0 net\n"
@@ -289,7 +300,9 @@ pub record FamiliesShown : Type 0 where
 
 -- E3 with bit 6 set, on a line: 002 refuses it by 8 wherever it is met, the others take it
 pub record SixthShown : Type 0 where
-  pub noted : recordsHeard (λ (number : ℕ). number) Reply Of002 (events fresh sixthOnLine) ≡ metOnLine 1 8 ∷ []
+  pub noted :
+      map (λ (family : Family). recordsHeard (λ (number : ℕ). number) Reply family (events fresh sixthOnLine)) families
+      ≡ (weighed 1 Gross 0x41 0 ∷ []) ∷ (weighed 1 Gross 0x41 1 ∷ []) ∷ (weighed 1 Gross 0x41 2 ∷ []) ∷ (metOnLine 1 8 ∷ []) ∷ []
   pub written : map writtenBy families ≡ verdict-as.Good ∷ verdict-as.Good ∷ verdict-as.Good ∷ verdict-as.Refused FieldOutside ∷ []
   pub listed :
       listedByEach sixthOnLine

@@ -22,9 +22,13 @@ use Rattle.records.specs.Stepping.{wholeLog}
 use Rattle.weighing_log.specs.Hearing.{weighing, metOnLine}
 use Rattle.demands.specs.Examples.{e3}
 
--- 01: "address as on the wire (00 to 9F), serial zero for a short address"; the serial has three bytes. From request 1 on the limit was FD
+-- 01: "address as on the wire (00 to 9F), serial zero for a short address"; the serial has three bytes
 abbrev pub highestBefore : ℕ
 highestBefore = 0x9F
+
+-- 02, request 1: "a short address is 01 to FD"
+abbrev pub highestSince : ℕ
+highestSince = 0xFD
 
 abbrev pub goodAddressUpTo : ℕ → Record → Bool
 goodAddressUpTo highest item = leb (item .address) highest && cond (eqb (item .address) 0) (leb (item .serial) 16_777_215) (eqb (item .serial) 0)
@@ -52,7 +56,7 @@ StayGoodUnder highest = (log : List ℕ) (items : List Record) → WasGood highe
 
 -- under 01's limit and under request 1's
 abbrev pub StaysGood : Type 0
-StaysGood = StayGoodUnder highestBefore × StayGoodUnder highestShort
+StaysGood = StayGoodUnder highestBefore × StayGoodUnder highestSince
 
 -- and no log is left out of WasGood: one that is whole now, each of whose records was good, was good
 abbrev pub EachBefore : ℕ → List Record → Type 0
@@ -90,22 +94,26 @@ OnlyThese = (item : Record) → good item ≡ true → (goodUpTo highestBefore i
 
 -- by request 4 alone
 abbrev pub OnlyFamilies : Type 0
-OnlyFamilies = (item : Record) → good item ≡ true → (goodUpTo highestShort item ≡ true) ⊎ WithFamily item
+OnlyFamilies = (item : Record) → good item ≡ true → (goodUpTo highestSince item ≡ true) ⊎ WithFamily item
 
 -- "Log records of kinds 1 and 2 follow": each of them, where its weight can be read
 abbrev pub HigherAdded : Type 0
 HigherAdded = (item : Record) → FromHigher item → readable (readingIn item) ≡ true → (good item ≡ true) × (goodUpTo highestBefore item ≡ false)
 
--- "1 to 3 for 000 to 002": each of them, with right digits and, under 3, with bit 6 clear
+-- "1 to 3 for 000 to 002": each of them, with right digits and, where byte 17 is 3, with bit 6 clear
 abbrev pub FamilyAdded : Type 0
 FamilyAdded =
     (item : Record) → WithFamily item → goodAddress item ≡ true → allDecimal (item .w0) (item .w1) (item .w2) ≡ true
-    → (item .family ≡ 3 → marked sixth (item .status) ≡ false) → (good item ≡ true) × (goodUpTo highestShort item ≡ false)
+    → (item .family ≡ 3 → marked sixth (item .status) ≡ false) → (good item ≡ true) × (goodUpTo highestSince item ≡ false)
 
 -- the same gross reply from both ends of the old range, from both ends of what was added, and from beyond
 abbrev pub grossFrom : ℕ → Record
 grossFrom byte = weighing 0 (Short byte) Gross (e3 Plain .bytes)
 
+abbrev pub fromEach : (Record → Bool) → List Bool
+fromEach rule = map (λ (byte : ℕ). rule (grossFrom byte)) (0x01 ∷ 0x9F ∷ 0xA0 ∷ 0xFD ∷ 0xFE ∷ [])
+
 pub record Moved : Type 0 where
-  pub before : map (λ (byte : ℕ). goodUpTo highestBefore (grossFrom byte)) (0x01 ∷ 0x9F ∷ 0xA0 ∷ 0xFD ∷ 0xFE ∷ []) ≡ true ∷ true ∷ false ∷ false ∷ false ∷ []
-  pub now : map (λ (byte : ℕ). good (grossFrom byte)) (0x01 ∷ 0x9F ∷ 0xA0 ∷ 0xFD ∷ 0xFE ∷ []) ≡ true ∷ true ∷ true ∷ true ∷ false ∷ []
+  pub before : fromEach (goodUpTo highestBefore) ≡ true ∷ true ∷ false ∷ false ∷ false ∷ []
+  pub since : fromEach (goodUpTo highestSince) ≡ true ∷ true ∷ true ∷ true ∷ false ∷ []
+  pub now : fromEach good ≡ true ∷ true ∷ true ∷ true ∷ false ∷ []
