@@ -8,7 +8,7 @@ use Rattle.room.specs.declared.Written.{Written}
 use Rattle.room.specs.Writing.{Left}
 use Rattle.crossing.specs.declared.events.QuayEvent.{QuayEvent}
 use Rattle.crossing.specs.declared.events.Given.{Given}
-use Rattle.crossing.specs.declared.families.Kin.{Kin}
+use Rattle.crossing.specs.declared.families.FamilySaid.{FamilySaid}
 use Rattle.crossing.specs.declared.roles.Asked.{Asked}
 use Rattle.crossing.specs.declared.writing.QuayWritten.{QuayWritten}
 use Rattle.crossing.specs.Events.{eventFrom}
@@ -22,7 +22,7 @@ event-from-one event a b = one
 pub role-from-one : (number : ℕ) (a b : Asked) → a ≡ roleFrom number → b ≡ roleFrom number → a ≡ b
 role-from-one number a b = one
 
-pub family-from-one : (number : ℕ) (a b : Kin) → a ≡ familyFrom number → b ≡ familyFrom number → a ≡ b
+pub family-from-one : (number : ℕ) (a b : FamilySaid) → a ≡ familyFrom number → b ≡ familyFrom number → a ≡ b
 family-from-one number a b = one
 
 pub written-out-one : (written : Written) (a b : QuayWritten) → a ≡ writtenOut written → b ≡ writtenOut written → a ≡ b

@@ -4,14 +4,14 @@ use Rattle.refusal.specs.declared.Refusal.the-variants.{FieldOutside}
 use Rattle.weight.specs.declared.families.FamilyNamed.{FamilyNamed}
 use Rattle.weight.specs.declared.families.FamilyNamed.the-variants as named-as
 use Rattle.weight.specs.Families.{familyNamed}
-use Rattle.crossing.specs.declared.families.Kin.{Kin}
-use Rattle.crossing.specs.declared.families.Kin.the-variants as kin-as
+use Rattle.crossing.specs.declared.families.FamilySaid.{FamilySaid}
+use Rattle.crossing.specs.declared.families.FamilySaid.the-variants as family-as
 
 -- a number that names no family is 8
-abbrev pub kinOf : FamilyNamed → Kin
-kinOf (named-as.Family family) = kin-as.Family family
-kinOf named-as.Unknown = kin-as.Refused FieldOutside
+abbrev pub refusedIfUnknown : FamilyNamed → FamilySaid
+refusedIfUnknown (named-as.Family family) = family-as.Family family
+refusedIfUnknown named-as.Unknown = family-as.Refused FieldOutside
 
 -- 0 is plain, 1 to 3 are 000 to 002; any other number is 8
-unfoldable pub familyFrom : ℕ → Kin
-familyFrom number = kinOf (familyNamed number)
+unfoldable pub familyFrom : ℕ → FamilySaid
+familyFrom number = refusedIfUnknown (familyNamed number)

@@ -7,7 +7,7 @@ mod writing;
 pub use events::Given;
 pub use events::QuayEvent;
 pub use events::event_from;
-pub use families::Kin;
+pub use families::FamilySaid;
 pub use families::family_from;
 pub use roles::Asked;
 pub use roles::role_from;

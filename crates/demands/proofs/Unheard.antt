@@ -54,8 +54,8 @@ use Rattle.crossing.specs.declared.roles.Asked.{Asked}
 use Rattle.crossing.specs.declared.roles.Asked.the-variants as asked-as
 use Rattle.crossing.specs.declared.events.QuayEvent.{QuayEvent}
 use Rattle.crossing.specs.Events.{eventFrom}
-use Rattle.crossing.specs.declared.families.Kin.{Kin}
-use Rattle.crossing.specs.declared.families.Kin.the-variants as kin-as
+use Rattle.crossing.specs.declared.families.FamilySaid.{FamilySaid}
+use Rattle.crossing.specs.declared.families.FamilySaid.the-variants as family-as
 use Rattle.crossing.specs.Families.{familyFrom}
 use Rattle.crossing.specs.Roles.{roleFrom}
 use Rattle.quay_weight.specs.Weights.{valueOut, differenceRead}
@@ -180,14 +180,14 @@ noted-none (noted-as.Record item) none = out-none item (none item refl)
 noted-none noted-as.Nothing none = nothing-none 0
 noted-none (noted-as.Refused why) none = nothing-none (numberOf why)
 
-heard-none : (time : ℕ) (asked : Asked) (kin : Kin) (given : Given) (body : List ℕ)
-    → ((role : Role) (family : Family) (event : Event) (item : Record) → asked ≡ asked-as.Role role → kin ≡ kin-as.Family family → given ≡ given-as.Event event
+heard-none : (time : ℕ) (asked : Asked) (family-number : FamilySaid) (given : Given) (body : List ℕ)
+    → ((role : Role) (family : Family) (event : Event) (item : Record) → asked ≡ asked-as.Role role → family-number ≡ family-as.Family family → given ≡ given-as.Event event
     → notedHeard time role family (heardAs event body) ≡ noted-as.Record item → weighs item ≡ false)
-    → HandsOnNoWeight (recordHeard time asked kin given body)
-heard-none time (asked-as.Refused why) kin given body none = nothing-none (numberOf why)
-heard-none time (asked-as.Role role) (kin-as.Refused why) given body none = nothing-none (numberOf why)
-heard-none time (asked-as.Role role) (kin-as.Family family) (given-as.Refused why) body none = nothing-none (numberOf why)
-heard-none time (asked-as.Role role) (kin-as.Family family) (given-as.Event event) body none =
+    → HandsOnNoWeight (recordHeard time asked family-number given body)
+heard-none time (asked-as.Refused why) family-number given body none = nothing-none (numberOf why)
+heard-none time (asked-as.Role role) (family-as.Refused why) given body none = nothing-none (numberOf why)
+heard-none time (asked-as.Role role) (family-as.Family family) (given-as.Refused why) body none = nothing-none (numberOf why)
+heard-none time (asked-as.Role role) (family-as.Family family) (given-as.Event event) body none =
     noted-none (notedHeard time role family (heardAs event body)) (λ item. none role family event item refl refl refl)
 
 -- a message across that says another thing than a weight, or nothing
@@ -212,27 +212,27 @@ received-none : (received : Received) → ((message : Message) → received ≡ 
 received-none (received-as.Message message) none = said-none (message .what) (none message refl)
 received-none (received-as.Refused why) none = said-none says.Nothing refl
 
-message-none : (asked : Asked) (kin : Kin) (body : List ℕ)
-    → ((role : Role) (family : Family) (message : Message) → asked ≡ asked-as.Role role → kin ≡ kin-as.Family family
+message-none : (asked : Asked) (family-number : FamilySaid) (body : List ℕ)
+    → ((role : Role) (family : Family) (message : Message) → asked ≡ asked-as.Role role → family-number ≡ family-as.Family family
     → readMessage role family body ≡ received-as.Message message → weightSaid (message .what) ≡ said-as.NoWeight)
-    → SaysNoWeight (messageIn asked kin body .what)
-message-none (asked-as.Role role) (kin-as.Family family) body none = received-none (readMessage role family body) (λ message. none role family message refl refl)
-message-none (asked-as.Role role) (kin-as.Refused why) body none = said-none says.Nothing refl
-message-none (asked-as.Refused why) kin body none = said-none says.Nothing refl
+    → SaysNoWeight (messageIn asked family-number body .what)
+message-none (asked-as.Role role) (family-as.Family family) body none = received-none (readMessage role family body) (λ message. none role family message refl refl)
+message-none (asked-as.Role role) (family-as.Refused why) body none = said-none says.Nothing refl
+message-none (asked-as.Refused why) family-number body none = said-none says.Nothing refl
 
 pub never-a-weight : NeverAWeight
 never-a-weight = record {
   unweighed = notes-none;
   record-read = λ (bytes : List ℕ). read-none (readRecord bytes);
   log-stepped = λ (log : List ℕ) (place : ℕ). stepped-none place (stepped log place);
-  event-recorded = λ (time number kin : ℕ) (event : QuayEvent) (body : List ℕ). heard-none time (roleFrom number) (familyFrom kin) (eventFrom event) body;
-  message-read = λ (number kin : ℕ) (body : List ℕ). message-none (roleFrom number) (familyFrom kin) body;
+  event-recorded = λ (time number family-number : ℕ) (event : QuayEvent) (body : List ℕ). heard-none time (roleFrom number) (familyFrom family-number) (eventFrom event) body;
+  message-read = λ (number family-number : ℕ) (body : List ℕ). message-none (roleFrom number) (familyFrom family-number) body;
 }
 
 -- ---- the other half
 
 says-its : (role : Role) (family : Family) (body : List ℕ) (message : Message) (said : SaidWeight) → T (areBytes body) → readMessage role family body ≡ received-as.Message message
-    → weightSaid (message .what) ≡ said-as.Weight said → SaysItsWeight family said body (messageIn (asked-as.Role role) (kin-as.Family family) body)
+    → weightSaid (message .what) ≡ said-as.Weight said → SaysItsWeight family said body (messageIn (asked-as.Role role) (family-as.Family family) body)
 says-its role family body message said all was says =
     let is = says-that (message .what) said says in
     record {
@@ -249,6 +249,6 @@ always-its-weight = record {
   weighed = notes-its;
   record-read = λ bytes item was weighing. rw was (hands-on item weighing);
   log-stepped = λ log place next item was weighing. rw was (hands-on item weighing);
-  event-recorded = λ time number kin role family event given body item asked by is was weighing. rw (asked, by, is, was) (hands-on item weighing);
-  message-read = λ number kin role family body message said all asked by was says. rw (asked, by) (says-its role family body message said all was says);
+  event-recorded = λ time number family-number role family event given body item asked by is was weighing. rw (asked, by, is, was) (hands-on item weighing);
+  message-read = λ number family-number role family body message said all asked by was says. rw (asked, by) (says-its role family body message said all was says);
 }

@@ -45,7 +45,7 @@ use Rattle.weighing_log.specs.Hearing.{notedHeard}
 use Rattle.crossing.specs.declared.events.QuayEvent.{QuayEvent}
 use Rattle.crossing.specs.declared.events.Given.the-variants as given-as
 use Rattle.crossing.specs.declared.roles.Asked.the-variants as asked-as
-use Rattle.crossing.specs.declared.families.Kin.the-variants as kin-as
+use Rattle.crossing.specs.declared.families.FamilySaid.the-variants as family-as
 use Rattle.crossing.specs.Events.{eventFrom}
 use Rattle.crossing.specs.Families.{familyFrom}
 use Rattle.crossing.specs.Roles.{roleFrom}
@@ -110,14 +110,14 @@ pub record NeverAWeight : Type 0 where
   pub log-stepped : (log : List ℕ) (place : ℕ)
       → ((item : Record) (next : ℕ) → stepped log place ≡ stepped-as.Record item next → weighs item ≡ false)
       → HandsOnNoWeight (steppedOut place (stepped log place) .item)
-  pub event-recorded : (time number kin : ℕ) (event : QuayEvent) (body : List ℕ)
-      → ((role : Role) (family : Family) (given : Event) (item : Record) → roleFrom number ≡ asked-as.Role role → familyFrom kin ≡ kin-as.Family family
+  pub event-recorded : (time number family-number : ℕ) (event : QuayEvent) (body : List ℕ)
+      → ((role : Role) (family : Family) (given : Event) (item : Record) → roleFrom number ≡ asked-as.Role role → familyFrom family-number ≡ family-as.Family family
       → eventFrom event ≡ given-as.Event given → notedHeard time role family (heardAs given body) ≡ noted-as.Record item → weighs item ≡ false)
-      → HandsOnNoWeight (recordHeard time (roleFrom number) (familyFrom kin) (eventFrom event) body)
-  pub message-read : (number kin : ℕ) (body : List ℕ)
-      → ((role : Role) (family : Family) (message : Message) → roleFrom number ≡ asked-as.Role role → familyFrom kin ≡ kin-as.Family family
+      → HandsOnNoWeight (recordHeard time (roleFrom number) (familyFrom family-number) (eventFrom event) body)
+  pub message-read : (number family-number : ℕ) (body : List ℕ)
+      → ((role : Role) (family : Family) (message : Message) → roleFrom number ≡ asked-as.Role role → familyFrom family-number ≡ family-as.Family family
       → readMessage role family body ≡ received-as.Message message → weightSaid (message .what) ≡ said-as.NoWeight)
-      → SaysNoWeight (messageIn (roleFrom number) (familyFrom kin) body .what)
+      → SaysNoWeight (messageIn (roleFrom number) (familyFrom family-number) body .what)
 
 -- ---- the other half
 
@@ -149,11 +149,11 @@ pub record AlwaysItsWeight : Type 0 where
       → HandsOnItsWeight item (readOut (readRecord bytes))
   pub log-stepped : (log : List ℕ) (place next : ℕ) (item : Record) → stepped log place ≡ stepped-as.Record item next → weighs item ≡ true
       → HandsOnItsWeight item (steppedOut place (stepped log place) .item)
-  pub event-recorded : (time number kin : ℕ) (role : Role) (family : Family) (event : QuayEvent) (given : Event) (body : List ℕ) (item : Record)
-      → roleFrom number ≡ asked-as.Role role → familyFrom kin ≡ kin-as.Family family → eventFrom event ≡ given-as.Event given
+  pub event-recorded : (time number family-number : ℕ) (role : Role) (family : Family) (event : QuayEvent) (given : Event) (body : List ℕ) (item : Record)
+      → roleFrom number ≡ asked-as.Role role → familyFrom family-number ≡ family-as.Family family → eventFrom event ≡ given-as.Event given
       → notedHeard time role family (heardAs given body) ≡ noted-as.Record item → weighs item ≡ true
-      → HandsOnItsWeight item (recordHeard time (roleFrom number) (familyFrom kin) (eventFrom event) body)
-  pub message-read : (number kin : ℕ) (role : Role) (family : Family) (body : List ℕ) (message : Message) (said : SaidWeight) → T (areBytes body)
-      → roleFrom number ≡ asked-as.Role role → familyFrom kin ≡ kin-as.Family family → readMessage role family body ≡ received-as.Message message
+      → HandsOnItsWeight item (recordHeard time (roleFrom number) (familyFrom family-number) (eventFrom event) body)
+  pub message-read : (number family-number : ℕ) (role : Role) (family : Family) (body : List ℕ) (message : Message) (said : SaidWeight) → T (areBytes body)
+      → roleFrom number ≡ asked-as.Role role → familyFrom family-number ≡ family-as.Family family → readMessage role family body ≡ received-as.Message message
       → weightSaid (message .what) ≡ said-as.Weight said
-      → SaysItsWeight family said body (messageIn (roleFrom number) (familyFrom kin) body)
+      → SaysItsWeight family said body (messageIn (roleFrom number) (familyFrom family-number) body)

@@ -14,8 +14,8 @@ use Rattle.listing.specs.Writing.{writtenLine}
 use Rattle.crossing.specs.declared.events.QuayEvent.{QuayEvent}
 use Rattle.crossing.specs.declared.events.Given.{Given}
 use Rattle.crossing.specs.declared.events.Given.the-variants as given-as
-use Rattle.crossing.specs.declared.families.Kin.{Kin}
-use Rattle.crossing.specs.declared.families.Kin.the-variants as kin-as
+use Rattle.crossing.specs.declared.families.FamilySaid.{FamilySaid}
+use Rattle.crossing.specs.declared.families.FamilySaid.the-variants as family-as
 use Rattle.quay_listing.specs.declared.lines.QuayListed.{QuayListed}
 use Rattle.crossing.specs.Events.{eventFrom}
 use Rattle.crossing.specs.Families.{familyFrom}
@@ -48,13 +48,13 @@ leftGiven number family (given-as.Event event) body room = writtenLine number (e
 leftGiven number family (given-as.Refused why) body room = room
 
 -- the same by a family that was handed in; one that does not exist is refused ahead of an event that does not
-abbrev pub listedBy : ℕ → Kin → Given → List ℕ → List ℕ → QuayListed
-listedBy number (kin-as.Family family) given body room = listedGiven number family given body room
-listedBy number (kin-as.Refused why) given body room = unlisted why
+abbrev pub listedBy : ℕ → FamilySaid → Given → List ℕ → List ℕ → QuayListed
+listedBy number (family-as.Family family) given body room = listedGiven number family given body room
+listedBy number (family-as.Refused why) given body room = unlisted why
 
-abbrev pub leftBy : ℕ → Kin → Given → List ℕ → List ℕ → List ℕ
-leftBy number (kin-as.Family family) given body room = leftGiven number family given body room
-leftBy number (kin-as.Refused why) given body room = room
+abbrev pub leftBy : ℕ → FamilySaid → Given → List ℕ → List ℕ → List ℕ
+leftBy number (family-as.Family family) given body room = leftGiven number family given body room
+leftBy number (family-as.Refused why) given body room = room
 
 pub record Lists (number family : ℕ) (event : QuayEvent) (body before : List ℕ) (answered : QuayListed) (left : List ℕ) : Type 0 where
   pub answer : answered ≡ listedBy number (familyFrom family) (eventFrom event) body before

@@ -1,6 +1,6 @@
 // Events as lines of text, and the total line.
+use crossing::FamilySaid;
 use crossing::Given;
-use crossing::Kin;
 use crossing::QuayEvent;
 use crossing::QuayWritten;
 use crossing::event_from;
@@ -71,10 +71,10 @@ pub extern "C" fn quay_list_event(
     ensures { λ r. ⌜ Lists number family event (now (body .entry)) (now (room .entry)) r (now (room .exit)) ⌝ }
 {
     match family_from(family) {
-        Kin::Refused(why) => unlisted(why),
-        Kin::Family(kin) => match event_from(event) {
+        FamilySaid::Refused(why) => unlisted(why),
+        FamilySaid::Family(spoken) => match event_from(event) {
             Given::Refused(why) => unlisted(why),
-            Given::Event(given) => list_entry(number, heard(kin, given, body), room),
+            Given::Event(given) => list_entry(number, heard(spoken, given, body), room),
         },
     }
 }

@@ -14,8 +14,8 @@ use Rattle.message.specs.Reading.{readMessage}
 use Rattle.records.specs.Records.{kindOf}
 use Rattle.crossing.specs.declared.roles.Asked.{Asked}
 use Rattle.crossing.specs.declared.roles.Asked.the-variants as asked-as
-use Rattle.crossing.specs.declared.families.Kin.{Kin}
-use Rattle.crossing.specs.declared.families.Kin.the-variants as kin-as
+use Rattle.crossing.specs.declared.families.FamilySaid.{FamilySaid}
+use Rattle.crossing.specs.declared.families.FamilySaid.the-variants as family-as
 use Rattle.quay_message.specs.declared.messages.QuayWhat.{QuayWhat}
 use Rattle.quay_message.specs.declared.messages.QuayMessage.{QuayMessage}
 
@@ -69,7 +69,7 @@ receivedOut (received-as.Refused why) = noMessage why
 
 -- a body read in a role and by a family that were handed in; a role that does not exist is refused ahead of a family that does not, and both ahead
 -- of the body's own refusals
-abbrev pub messageIn : Asked → Kin → List ℕ → QuayMessage
-messageIn (asked-as.Role role) (kin-as.Family family) body = receivedOut (readMessage role family body)
-messageIn (asked-as.Role role) (kin-as.Refused why) body = noMessage why
-messageIn (asked-as.Refused why) kin body = noMessage why
+abbrev pub messageIn : Asked → FamilySaid → List ℕ → QuayMessage
+messageIn (asked-as.Role role) (family-as.Family family) body = receivedOut (readMessage role family body)
+messageIn (asked-as.Role role) (family-as.Refused why) body = noMessage why
+messageIn (asked-as.Refused why) spoken body = noMessage why

@@ -2,7 +2,7 @@
 use body::first_byte;
 use body::serial_of;
 use crossing::Asked;
-use crossing::Kin;
+use crossing::FamilySaid;
 use crossing::family_from;
 use crossing::role_from;
 use meaning::What;
@@ -166,8 +166,8 @@ pub extern "C" fn quay_read_message(role: u8, family: u8, body: &[u8]) -> QuayMe
     match role_from(role) {
         Asked::Refused(why) => no_message(why),
         Asked::Role(asked) => match family_from(family) {
-            Kin::Refused(why) => no_message(why),
-            Kin::Family(kin) => received_out(message::read(asked, kin, body)),
+            FamilySaid::Refused(why) => no_message(why),
+            FamilySaid::Family(spoken) => received_out(message::read(asked, spoken, body)),
         },
     }
 }

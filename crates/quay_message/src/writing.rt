@@ -1,7 +1,7 @@
 // Frames and messages written into lent room.
 use crate::addresses::address_from;
 use crossing::Asked;
-use crossing::Kin;
+use crossing::FamilySaid;
 use crossing::QuayWritten;
 use crossing::family_from;
 use crossing::role_from;
@@ -45,10 +45,10 @@ pub extern "C" fn quay_write_message(
     match role_from(role) {
         Asked::Refused(why) => written_out(refused_write(why)),
         Asked::Role(asked) => match family_from(family) {
-            Kin::Refused(why) => written_out(refused_write(why)),
-            Kin::Family(kin) => {
+            FamilySaid::Refused(why) => written_out(refused_write(why)),
+            FamilySaid::Family(spoken) => {
                 let address = address_from(short, serial);
-                let written = message::write(asked, kin, address, code, data, room);
+                let written = message::write(asked, spoken, address, code, data, room);
                 written_out(written)
             }
         },

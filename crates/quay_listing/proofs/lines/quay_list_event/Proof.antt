@@ -14,8 +14,8 @@ enum-known-why c = search needs
 unlisted-requires : tie.Need-unlisted-requires
 unlisted-requires c κs = search needs
 
-enum-known-kin : tie.Need-enum-known-kin
-enum-known-kin c = search needs
+enum-known-spoken : tie.Need-enum-known-spoken
+enum-known-spoken c = search needs
 
 event-from-requires : tie.Need-event-from-requires
 event-from-requires c κs = search needs
@@ -42,9 +42,9 @@ returns c = let none = sym (c .before .before .before .before .family-from .ensu
 returns-2 : tie.Need-returns-2
 returns-2 c =
     let event = c .before .before .before .before in
-    let kin = sym (event .before .before .before .before .family-from .ensures) ∙ event .before .before .kin .given .1 in
+    let spoken = sym (event .before .before .before .before .family-from .ensures) ∙ event .before .before .spoken .given .1 in
     let none = sym (event .event-from .ensures) ∙ c .before .before .why2 .given .1 in
-    record { answer = rw (kin, none) (c .unlisted2 .ensures); room = rw (kin, none) }
+    record { answer = rw (spoken, none) (c .unlisted2 .ensures); room = rw (spoken, none) }
 
 same-length : tie.Need-same-length
 same-length c = search needs
@@ -52,10 +52,10 @@ same-length c = search needs
 returns-3 : tie.Need-returns-3
 returns-3 c =
     let event = c .before .before .before .before .before .before .before .before in
-    let kin = sym (event .before .before .before .before .family-from .ensures) ∙ event .before .before .kin .given .1 in
+    let spoken = sym (event .before .before .before .before .family-from .ensures) ∙ event .before .before .spoken .given .1 in
     let some = sym (event .event-from .ensures) ∙ c .before .before .before .before .before .before .given .given .1 in
     let listed = rw (c .before .before .before .before .heard .ensures) at (c .before .before .list-entry .ensures) in
-    record { answer = rw (kin, some) (listed .answer); room = rw (kin, some) (listed .room) }
+    record { answer = rw (spoken, some) (listed .answer); room = rw (spoken, some) (listed .room) }
 
 pub quay-list-event-spec : {M : Type 1} → statement M
 quay-list-event-spec =
@@ -64,7 +64,7 @@ quay-list-event-spec =
     family-from-requires
     enum-known-why
     unlisted-requires
-    enum-known-kin
+    enum-known-spoken
     event-from-requires
     enum-known-why-2
     unlisted-requires-2

@@ -25,8 +25,8 @@ enum-known-why-2 c = search needs
 no-message-requires-2 : tie.Need-no-message-requires-2
 no-message-requires-2 c κs = search needs
 
-enum-known-kin : tie.Need-enum-known-kin
-enum-known-kin c = search needs
+enum-known-spoken : tie.Need-enum-known-spoken
+enum-known-spoken c = search needs
 
 read-requires : tie.Need-read-requires
 read-requires c κs = search needs
@@ -45,7 +45,7 @@ returns-2 c =
 returns-3 : tie.Need-returns-3
 returns-3 c =
     let family = c .before .before .before .before .before in
-    rw (c .received-out .ensures, c .before .read .ensures, ← family .before .before .before .before .role-from .ensures, family .before .before .asked .given .1, ← family .family-from .ensures, c .before .before .before .kin .given .1)
+    rw (c .received-out .ensures, c .before .read .ensures, ← family .before .before .before .before .role-from .ensures, family .before .before .asked .given .1, ← family .family-from .ensures, c .before .before .before .spoken .given .1)
 
 pub quay-read-message-spec : {M : Type 1} → statement M
 quay-read-message-spec =
@@ -58,7 +58,7 @@ quay-read-message-spec =
     family-from-requires
     enum-known-why-2
     no-message-requires-2
-    enum-known-kin
+    enum-known-spoken
     read-requires
     received-out-requires
     returns

@@ -33,8 +33,8 @@ refused-write-requires-2 c κs = search needs
 written-out-requires-2 : tie.Need-written-out-requires-2
 written-out-requires-2 c κs = search needs
 
-enum-known-kin : tie.Need-enum-known-kin
-enum-known-kin c = search needs
+enum-known-spoken : tie.Need-enum-known-spoken
+enum-known-spoken c = search needs
 
 address-from-requires : tie.Need-address-from-requires
 address-from-requires c κs = search needs
@@ -63,8 +63,8 @@ returns-3 : tie.Need-returns-3
 returns-3 c =
     let family = c .before .before .before .before .before .before .before .before .before in
     let some = sym (family .before .before .before .before .role-from .ensures) ∙ family .before .before .asked .given .1 in
-    let kin = sym (family .family-from .ensures) ∙ c .before .before .before .before .before .before .before .kin .given .1 in
-    rw (some, kin) (crosses (rw (c .before .before .before .before .before .address-from .ensures) at (c .before .before .before .write .ensures)) (c .written-out3 .ensures))
+    let spoken = sym (family .family-from .ensures) ∙ c .before .before .before .before .before .before .before .spoken .given .1 in
+    rw (some, spoken) (crosses (rw (c .before .before .before .before .before .address-from .ensures) at (c .before .before .before .write .ensures)) (c .written-out3 .ensures))
 
 pub quay-write-message-spec : {M : Type 1} → statement M
 quay-write-message-spec =
@@ -79,7 +79,7 @@ quay-write-message-spec =
     enum-known-why-2
     refused-write-requires-2
     written-out-requires-2
-    enum-known-kin
+    enum-known-spoken
     address-from-requires
     write-requires
     written-out-requires-3
