@@ -47,7 +47,7 @@ MessageReadsBack =
     (role : Role) (family : Family) (address : Address) (code : ℕ) (data′ room : List ℕ) → judgedMessageWrite role family address code data′ room ≡ Good
     → ReadsAs role family address code data′ (writtenBytes (writtenMessage role family address code data′ room))
 
--- ---- "each message that is accepted gives back its own body bytes when written again with its own role, family, address, code and data"
+-- ---- "each message that is accepted gives back its own body bytes when written again": with its own role, family, address, code and data
 
 pub record WrittenAgain (role : Role) (family : Family) (body : List ℕ) (message : Message) (data′ : List ℕ) : Type 0 where
   pub same : bodyOf (message .address) (message .code) data′ ≡ body
