@@ -1,4 +1,5 @@
-"""What the works are measured on, a megabyte each: wires for the reader and the listing, bodies for the messages, records for the log."""
+"""What the works are measured on, a megabyte each: wires for the reader and the listing, bodies for the messages, records for the log,
+parcel messages."""
 
 SIZE = 1_000_000
 
@@ -70,3 +71,42 @@ MIXED_RECORDS = [
 ]
 
 RECORDS = {"weighings": filled(b"".join(WEIGHINGS)), "mixed records": filled(b"".join(MIXED_RECORDS))}
+
+
+def parcel_check(body: bytes) -> int:
+    register = 0
+    for byte in body:
+        for place in range(7, -1, -1):
+            bit = byte >> place & 1
+            register = register * 2 + bit if register < 0x8000 else (register - 0x8000) * 2 + bit ^ 0x1021
+    return register
+
+
+def parcel_of(words: str, piece: int = 14) -> bytes:
+    """A message of the parcel scales, with zeros behind it up to the length of a piece: they are not looked at."""
+    body = bytes.fromhex(words)
+    sent = bytes.fromhex("F855CE") + len(body).to_bytes(2, "little") + body + parcel_check(body).to_bytes(2, "little")
+    return sent.ljust(piece, b"\0")
+
+
+PARCEL_WEIGHT = parcel_of("10393000000101")  # 12,345 divisions of a gram, stable
+
+# each of the seven, and refusals 20, 21, 22, 6, 7, 8
+MIXED_PARCELS = [
+    PARCEL_WEIGHT,
+    parcel_of("A0"),
+    parcel_of("A3FBFFFFFF"),
+    parcel_of("90"),
+    parcel_of("10FBFFFFFF0200"),
+    parcel_of("12"),
+    parcel_of("5078563412"),
+    parcel_of("F0"),
+    b"\0" + PARCEL_WEIGHT[1:],
+    PARCEL_WEIGHT[:3] + b"\x08" + PARCEL_WEIGHT[4:],
+    PARCEL_WEIGHT[:-1] + b"\0",
+    parcel_of("A1"),
+    parcel_of("A000"),
+    parcel_of("10393000000501"),
+]
+
+PARCELS = {"parcel weights": filled(PARCEL_WEIGHT), "mixed parcels": filled(b"".join(MIXED_PARCELS))}

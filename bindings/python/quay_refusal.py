@@ -1,4 +1,7 @@
-"""Refusals: the numbers of the rules paper's list, and the exception that carries one."""
+"""Refusals: the numbers of the rules paper's list and of the requests behind it, and the exception that carries one.
+
+20 to 22 are of the parcel scales, whose messages this module does not hand over yet.
+"""
 from __future__ import annotations
 
 from typing import Any, Dict
@@ -15,6 +18,9 @@ MEANINGS: Dict[int, str] = {
     9: 'lent room shorter than needed',
     10: 'log bytes left over, 1 to 19',
     11: 'log record breaks a rule',
+    20: "header of a parcel scale's message wrong, or under 3 bytes",
+    21: "fewer bytes than length and check of a parcel scale's message need",
+    22: "check of a parcel scale's message wrong",
 }
 
 

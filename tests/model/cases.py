@@ -10,6 +10,7 @@ import cases_line
 import cases_listing
 import cases_log
 import cases_message
+import cases_parcel
 import cases_walker
 import cases_weight
 import line
@@ -17,7 +18,8 @@ import line
 PARTS = (
     ('frame', cases_frame.cases), ('line', cases_line.cases), ('weight', cases_weight.cases),
     ('message', cases_message.cases), ('log', cases_log.cases),
-    ('listing', cases_listing.cases), ('wires', cases_line.wires), ('walker', cases_walker.cases))
+    ('listing', cases_listing.cases), ('wires', cases_line.wires), ('walker', cases_walker.cases),
+    ('parcel', cases_parcel.cases))
 
 
 def all_cases():

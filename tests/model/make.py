@@ -3,13 +3,14 @@
     python3 tests/model/make.py                writes them anew
     python3 tests/model/make.py --check        says whether the committed ones are stale (exit 1)
     python3 tests/model/make.py --differ FILE  says which cases a run's output answers otherwise (exit 1)
+    python3 tests/model/make.py --differ parcel_vectors FILE   the same of that program; else it is vectors
     python3 tests/model/make.py --text         writes the cases as text to tests/model/out, to be read
 
-The committed files are what `crates/vectors` reads and must write, and a mixed
-capture with its listing, which `crates/list_capture` reads and must write; and
-the small wires of samples/ with theirs. The mixed capture is listed as family
-002, each small wire as its own. As text there is a file per part of the model
-with one case a line.
+The committed files are what `crates/vectors` and `crates/parcel_vectors` read
+and must write, and a mixed capture with its listing, which `crates/list_capture`
+reads and must write; and the small wires of samples/ with theirs. The mixed
+capture is listed as family 002, each small wire as its own. As text there is a
+file per part of the model with one case a line.
 """
 
 import collections
@@ -19,6 +20,7 @@ import sys
 import captures
 import cases
 import listing
+import parcel_vectors
 import sample
 import vectors
 
@@ -28,6 +30,8 @@ ROOT = os.path.join(HERE, '..', '..')
 CAPTURE_SEED = 2024
 CAPTURE_SIZE = 200_000
 SHOWN = 10  # cases that a difference shows whole
+PROGRAMS = {'vectors': vectors.vectors, 'parcel_vectors': parcel_vectors.vectors}  # what runs cases
+NOT_NAMED = 'vectors'  # whose cases a difference is asked of if no program is named
 
 
 def text_of(part):
@@ -42,7 +46,8 @@ def text_files():
 
 def run_files():
     """(program, what it reads, what it must write) of the committed files."""
-    yield ('vectors', *vectors.files())
+    for program, cases_run in PROGRAMS.items():
+        yield (program, *vectors.files_of(list(cases_run())))
     capture = captures.capture(CAPTURE_SEED, CAPTURE_SIZE)
     yield 'list_capture', capture, listing.listing_of(listing.FAMILY_NOT_SAID, capture)
 
@@ -88,14 +93,15 @@ def write(folder, files):
 
 
 def write_vectors():
-    run = collections.Counter(vector.case[0] for vector in vectors.vectors())
-    for name, count in run.items():
-        print('%s: %d cases' % (name, count))
+    for cases_run in PROGRAMS.values():
+        run = collections.Counter(vector.case[0] for vector in cases_run())
+        for name, count in run.items():
+            print('%s: %d cases' % (name, count))
     return write(ROOT, committed_files())
 
 
-def differ(path):
-    wanted = list(vectors.vectors())
+def differ(program, path):
+    wanted = list(PROGRAMS[program]())
     given = (content_of(path) or b'').splitlines()
     wrong = [(vector, answer) for vector, answer in zip(wanted, given) if vector.answer != answer]
     for vector, answer in wrong[:SHOWN]:
@@ -112,9 +118,11 @@ def main(arguments):
     if arguments == ['--text']:
         return write(TEXT_FOLDER, text_files())
     if len(arguments) == 2 and arguments[0] == '--differ':
-        return differ(arguments[1])
+        return differ(NOT_NAMED, arguments[1])
+    if len(arguments) == 3 and arguments[0] == '--differ' and arguments[1] in PROGRAMS:
+        return differ(*arguments[1:])
     if arguments:
-        print('usage: make.py [--check | --text | --differ FILE]', file=sys.stderr)
+        print('usage: make.py [--check | --text | --differ [%s] FILE]' % ' | '.join(PROGRAMS), file=sys.stderr)
         return 2
     return write_vectors()
 

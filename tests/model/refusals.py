@@ -1,4 +1,4 @@
-"""The numbers of the paper's list "What the answers mean".
+"""The numbers of the paper's list "What the answers mean", and those of 02 request 5.
 
 Every answer of the model starts with one of these numbers. A reader that
 refuses answers the number and nothing else; a writer that refuses answers
@@ -17,9 +17,13 @@ FIELD_WRONG = 8      # a field outside its values; 02 request 4: also family 002
 ROOM_SHORT = 9       # lent room shorter than needed
 LOG_LEFT_OVER = 10   # log bytes left over, 1 to 19
 RECORD_WRONG = 11    # log record breaks a rule; 02 request 4: also one of byte 17
+HEADER_WRONG = 20    # 02 request 5: "header wrong or under 3 bytes"
+BYTES_MISSING = 21   # 02 request 5: "fewer bytes than length and check need"
+PARCEL_CHECK_WRONG = 22  # 02 request 5: "check wrong"
 
 ALL = (BODY_TOO_SHORT, BODY_TOO_LONG, STRAY_BYTE, CHECK_WRONG, ADDRESS_WRONG, CODE_UNKNOWN,
-       LENGTH_WRONG, FIELD_WRONG, ROOM_SHORT, LOG_LEFT_OVER, RECORD_WRONG)
+       LENGTH_WRONG, FIELD_WRONG, ROOM_SHORT, LOG_LEFT_OVER, RECORD_WRONG, HEADER_WRONG, BYTES_MISSING,
+       PARCEL_CHECK_WRONG)
 LINE_REFUSALS = range(1, 9)  # "Kind 3 is a refusal met on the line: status 1 to 8"
 
 

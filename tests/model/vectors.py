@@ -1,11 +1,12 @@
-"""Cases as the program reads and answers them, which runs them through the proved functions.
+"""Cases as the program `crates/vectors` reads and answers them, which runs them through the proved functions.
 
 A case is bytes: one of its function, its text with two bytes of length ahead,
 for a writer the room as it is lent in the same way, and then its numbers, low
 byte first. An answer is a line of words. README.md has the layouts.
 
 `RUN` is the one list of what is run: a function of the cases, and under which
-number and in which layouts. What is not in it is not run.
+number and in which layouts. What is not in it is not run. `parcel_vectors.py` has
+the list of the second program, in the same form.
 """
 
 from collections import namedtuple
@@ -319,10 +320,10 @@ RUN = (
     (cases_line.wires, WIRE_RUN), (cases_walker.cases, WALKER_RUN))
 
 
-def given(layout, inputs):
+def given(layout, inputs, first_writer):
     """A case as the program reads it."""
     lent = b''
-    if layout.number >= FIRST_WRITER:
+    if layout.number >= first_writer:
         *inputs, room = inputs
         assert len(room) <= LONGEST
         lent = string(room)
@@ -336,17 +337,17 @@ def told(layout, answer):
     return ' '.join(words_of((layout.number, layout.tell(*answer)))).encode('ascii')
 
 
-def vectors():
-    """Every case that is run, with what the program reads and its line."""
-    for part, layouts in RUN:
+def vectors(run=RUN, first_writer=FIRST_WRITER):
+    """Every case that is run, with what the program reads and its line. A program
+    of its own has its own list, and its own first function that is lent room."""
+    for part, layouts in run:
         for case in part():
             name, inputs, answer = case
             for layout in layouts.get(name, ()):
-                yield Vector(case, given(layout, inputs), told(layout, answer))
+                yield Vector(case, given(layout, inputs, first_writer), told(layout, answer))
 
 
-def files():
-    """What the program reads, and what it must write."""
-    all_of_them = list(vectors())
+def files_of(all_of_them):
+    """What the program reads, and what it must write, of its vectors."""
     return (b''.join(vector.given for vector in all_of_them),
             b''.join(vector.answer + b'\n' for vector in all_of_them))

@@ -1,8 +1,8 @@
-//! The numbered refusals of the rules paper.
+//! The numbered refusals of the rules paper, 1 to 11, and of the requests behind it, from 20 on.
 use core::error::Error;
 use core::fmt;
 
-/// Why something was refused: one case for each number of the rules paper's list.
+/// Why something was refused: one case for each number of the list.
 #[derive(Clone, Copy, Debug, PartialEq, Eq, Hash, PartialOrd, Ord)]
 #[repr(u8)]
 pub enum Refusal {
@@ -28,9 +28,15 @@ pub enum Refusal {
     LogLeftOver = 10,
     /// 11: a log record breaks a rule.
     RecordBroken = 11,
+    /// 20: a parcel scale's message does not start with F8 55 CE, or has under 3 bytes. Nothing of this crate answers 20, 21 or 22 yet.
+    HeaderWrong = 20,
+    /// 21: fewer bytes than the length and the check of such a message need.
+    BytesMissing = 21,
+    /// 22: the check of such a message is wrong.
+    ParcelCheckWrong = 22,
 }
 
-const IN_ORDER: [Refusal; 11] = [
+const IN_ORDER: [Refusal; 14] = [
     Refusal::BodyShort,
     Refusal::BodyLong,
     Refusal::HeldBroken,
@@ -42,6 +48,9 @@ const IN_ORDER: [Refusal; 11] = [
     Refusal::RoomShort,
     Refusal::LogLeftOver,
     Refusal::RecordBroken,
+    Refusal::HeaderWrong,
+    Refusal::BytesMissing,
+    Refusal::ParcelCheckWrong,
 ];
 
 impl Refusal {
@@ -79,6 +88,9 @@ impl Refusal {
             Refusal::RoomShort => "the lent room is shorter than needed",
             Refusal::LogLeftOver => "bytes of the log are left over",
             Refusal::RecordBroken => "a log record breaks a rule",
+            Refusal::HeaderWrong => "the header of the parcel message is wrong",
+            Refusal::BytesMissing => "bytes of the parcel message are missing",
+            Refusal::ParcelCheckWrong => "the check of the parcel message is wrong",
         }
     }
 }

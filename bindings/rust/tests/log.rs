@@ -131,7 +131,7 @@ fn what_was_heard_makes_its_record() {
 
 #[test]
 fn a_refusal_that_no_line_can_meet_is_refused() {
-    for why in [Refusal::RoomShort, Refusal::LogLeftOver, Refusal::RecordBroken] {
+    for why in (9..=u8::MAX).filter_map(Refusal::of_number) {
         let event = Event::Refused { why, wire: WirePlace(1), kept: BodyPlace(0) };
         assert_eq!(record_heard(5, Role::Reply, FAMILY, event), Err(Refusal::FieldOutside), "{why}");
     }

@@ -10,7 +10,7 @@ use lib.Bits.{bitXor, xor-lt, xor-zero-l, xor-comm, xor-self}
 use lib.Pow.{shl-lt, shr-lt, split, pow-mono, pow-pos}
 use Rattle.laws.proofs.Computed.{below}
 use Rattle.check_byte.specs.Register.{shiftIn, feedBits}
-use Rattle.check_byte.proofs.Bits.{xor-assoc}
+use Rattle.register.proofs.Bits.{xor-assoc}
 use Rattle.check_byte.proofs.Laws.{bits-below, bits-linear, beside}
 use Rattle.check_byte.proofs.Wide.{standsFor, in-parts, narrow, behind}
 

@@ -1,4 +1,3 @@
-pub mod Bits
 pub mod Folding
 pub mod Halves
 pub mod Laws

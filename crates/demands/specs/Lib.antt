@@ -12,6 +12,8 @@ pub mod Messages
 pub mod Noted
 pub mod OlderBridges
 pub mod OnTheWire
+pub mod Parcels
+pub mod ParcelsShown
 pub mod Reading
 pub mod Shown
 pub mod Stops

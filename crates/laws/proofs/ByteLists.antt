@@ -1,13 +1,14 @@
--- Shown: an element of a list of bytes is below 256, a part of one is one, and a list of known length is its elements by their places.
+-- Shown: an element of a list of bytes is below 256, a part of one is one, and a list of known length is its elements by their places; a slice's part.
 -- Why: by induction along the list.
 use mir.Facts.{and-yes, yes-and}
-use Prim.Native.Nat.{ℕ, zero, suc, _≤_, _<_}
+use Prim.Native.Nat.{ℕ, zero, suc, _-_, _≤_, _<_}
 use mathlib.Core.Path.{_≡_, _∙_, refl, sym, ap}
 use mathlib.Core.List.{List, [], _∷_}
+use native.Mathlib.Nat.{sub-zero, zero-sub, suc-sub-suc}
 use native.Mathlib.Omega.{arith}
 use lib.Dec.{T, ltb, ltb→lt, lit<}
 use lib.ListN.{length, take, drop, getD}
-use lib.Seq.{take-all}
+use lib.Seq.{slice, take-all, take-nil, drop-nil}
 use lib.Pow.{areBytes}
 
 -- a byte of a list of bytes, wherever it stands
@@ -41,3 +42,10 @@ front-by-place (suc count) (element ∷ l) h = ap (λ (rest : List ℕ). element
 
 pub by-place : (count : ℕ) (l : List ℕ) → length l ≡ count → l ≡ placed count (λ (i : ℕ). getD l i 0)
 by-place count l e = sym (take-all count l (omega arith)) ∙ front-by-place count l (omega arith)
+
+-- a part of a slice as the code takes it
+pub part : (from to : ℕ) (l : List ℕ) → take (to - from) (drop from l) ≡ slice from to l
+part zero to l = rw sub-zero
+part (suc from) zero l = rw zero-sub
+part (suc from) (suc to) [] = rw (drop-nil, take-nil)
+part (suc from) (suc to) (byte ∷ l) = rw suc-sub-suc (part from to l)

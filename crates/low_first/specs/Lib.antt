@@ -1,1 +1,2 @@
 pub mod LowFirst
+pub mod Signed

@@ -1,4 +1,5 @@
--- 01, "low first": a number of more than one byte and its bytes, as serials, times and counts stand on the wire and in records.
+-- 01, "low first": a number of more than one byte and its bytes, as serials, times and counts stand on the wire
+-- and in records. 02, request 5, "Numbers go low byte first": so do a parcel's length, fields and check.
 use Prim.Native.Nat.{ℕ, zero, suc, _+_, _*_, _/_, _%_}
 use mathlib.Core.List.{List, [], _∷_}
 

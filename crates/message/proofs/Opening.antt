@@ -1,13 +1,13 @@
 -- Shown: what the reader may answer once a body was opened and its code and data were judged is what the paper's order answers.
 -- Why: the parts of a good body are where its code and data stand, and a refusal stays the first one met.
-use Prim.Native.Nat.{ℕ, zero, suc, _+_, _-_, _≤_}
+use Prim.Native.Nat.{ℕ, _+_, _-_, _≤_}
 use mathlib.Core.Path.{_≡_, _∙_, sym}
 use mathlib.Core.Bool.{Bool, false}
-use mathlib.Core.List.{List, [], _∷_}
-use native.Mathlib.Nat.{sub-zero, zero-sub, suc-sub-suc}
+use mathlib.Core.List.{List}
 use native.Mathlib.Omega.{arith}
 use lib.ListN.{length, take, drop}
-use lib.Seq.{slice, length-slice, take-nil, drop-nil}
+use lib.Seq.{slice, length-slice}
+use Rattle.laws.proofs.ByteLists.{part}
 use Rattle.refusal.specs.declared.Refusal.{Refusal}
 use Rattle.refusal.specs.declared.Verdict.the-variants.{Good}
 use Rattle.refusal.proofs.Verdicts.{Tells, verdict-good, verdict-refused}
@@ -40,13 +40,6 @@ unfolding dataIn
 data-end body long =
     let inside = address-inside body long in
     omega (arith, length-slice (addressLength (addressIn body) + 1) (length body - 1) body (omega arith))
-
--- a part of a slice as the code takes it
-part : (from to : ℕ) (l : List ℕ) → take (to - from) (drop from l) ≡ slice from to l
-part zero to l = rw sub-zero
-part (suc from) zero l = rw zero-sub
-part (suc from) (suc to) [] = rw (drop-nil, take-nil)
-part (suc from) (suc to) (byte ∷ l) = rw suc-sub-suc (part from to l)
 
 -- ---- a body that was opened, or was not
 

@@ -2,7 +2,7 @@
 -- Why: the row with the number of a refusal is its own, case by case.
 use mathlib.Core.Path.{_≡_, _∙_, refl, sym, ap}
 use Rattle.refusal.specs.declared.Refusal.{Refusal}
-use Rattle.refusal.specs.declared.Refusal.the-variants.{BodyShort, BodyLong, HeldBroken, CheckWrong, AddressIllegal, CodeUnknown, LengthWrong, FieldOutside, RoomShort, LogLeftOver, RecordBroken}
+use Rattle.refusal.specs.declared.Refusal.the-variants.{BodyShort, BodyLong, HeldBroken, CheckWrong, AddressIllegal, CodeUnknown, LengthWrong, FieldOutside, RoomShort, LogLeftOver, RecordBroken, HeaderWrong, BytesMissing, ParcelCheckWrong}
 use Rattle.refusal.specs.declared.Named.{Named}
 use Rattle.refusal.specs.declared.Named.the-variants as named-as
 use Rattle.refusal.specs.Numbers.{numberOf, namedIn, namedOf}
@@ -20,6 +20,9 @@ named-back FieldOutside = refl
 named-back RoomShort = refl
 named-back LogLeftOver = refl
 named-back RecordBroken = refl
+named-back HeaderWrong = refl
+named-back BytesMissing = refl
+named-back ParcelCheckWrong = refl
 
 inside : Named → Refusal → Refusal
 inside (named-as.Refusal why) other = why

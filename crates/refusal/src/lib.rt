@@ -1,9 +1,9 @@
-// The numbered refusals of the rules paper ("What the answers mean"), and the verdict that every judge
+// The numbered refusals of the rules paper ("What the answers mean") and of the requests of 02, and the verdict that every judge
 // of the layers above gives.
 ghost use mathlib.Core.Path.{_≡_};
 ghost use Rattle.refusal.specs.Numbers.{numberOf, namedOf, lineStatus};
 
-// One case for each number of the paper's list, named by its meaning.
+// One case for each number of the list, named by its meaning: 1 to 11 of 01, from 20 on of 02.
 pub enum Refusal {
     BodyShort, // 1: body ended with under 3 bytes, or first byte 00 and under 6
     BodyLong, // 2: 256th body byte; body would pass 255
@@ -16,6 +16,9 @@ pub enum Refusal {
     RoomShort, // 9: lent room shorter than needed
     LogLeftOver, // 10: log bytes left over, 1 to 19
     RecordBroken, // 11: log record breaks a rule
+    HeaderWrong, // 20: header of a parcel scale's message wrong, or under 3 bytes
+    BytesMissing, // 21: fewer bytes than length and check of such a message need
+    ParcelCheckWrong, // 22: its check wrong
 }
 
 // What a judge says of what it was given.
@@ -46,6 +49,9 @@ pub fn number(refusal: Refusal) -> u8
         Refusal::RoomShort => 9,
         Refusal::LogLeftOver => 10,
         Refusal::RecordBroken => 11,
+        Refusal::HeaderWrong => 20,
+        Refusal::BytesMissing => 21,
+        Refusal::ParcelCheckWrong => 22,
     }
 }
 
@@ -72,6 +78,9 @@ pub fn of_number(number: u8) -> Named
         9 => Named::Refusal(Refusal::RoomShort),
         10 => Named::Refusal(Refusal::LogLeftOver),
         11 => Named::Refusal(Refusal::RecordBroken),
+        20 => Named::Refusal(Refusal::HeaderWrong),
+        21 => Named::Refusal(Refusal::BytesMissing),
+        22 => Named::Refusal(Refusal::ParcelCheckWrong),
         _ => Named::Unknown,
     }
 }

@@ -1,5 +1,5 @@
 -- 01, "What the answers mean": "A refused write answers length 0 beside its number and leaves every lent byte as it stood; an accepted
--- one changes only its own length of bytes." This page says so once, for frames, messages and log records.
+-- one changes only its own length of bytes." This page says so once, for every writer: of frames, messages, log records, lines and parcels.
 use Prim.Native.Nat.{ℕ}
 use mathlib.Core.Path.{_≡_}
 use mathlib.Core.List.{List}

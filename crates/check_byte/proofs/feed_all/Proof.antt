@@ -6,9 +6,10 @@ use mathlib.Core.Logic.{⊎-elim}
 use native.Mathlib.Omega.{arith}
 use lib.ListN.{length, drop, getD, drop-of-length-le}
 use borrow.Author.Needs.{needs}
-use Rattle.check_byte.specs.Register.{feedAll}
-use Rattle.check_byte.proofs.Wide.{standsFor}
-use Rattle.check_byte.proofs.Slices.{Begun, Fours, left, odd, even, two-more, no-more, four-in}
+use Rattle.register.proofs.Slices.{four-in}
+use Rattle.check_byte.specs.Register.{feedByte, feedAll}
+use Rattle.check_byte.proofs.Wide.{standsFor, byte-behind}
+use Rattle.check_byte.proofs.Slices.{Begun, Fours, left, odd, even, two-more, no-more}
 use Rattle.check_byte.proofs.feed_all.Statement.{statement}
 use Rattle.check_byte.proofs.feed_all.Tie as tie
 
@@ -99,13 +100,14 @@ loop-less : tie.Need-loop-less Inv-loop μ-loop
 loop-less c = omega arith
 
 loop-again : tie.Need-loop-again Inv-loop μ-loop
+unfolding feedAll
 loop-again c =
     let at = c .before .before .before .before .before .before .before in
     let start = at .before .before .before .before .args in
     let fed : left (start .bytes .now) (c .enter-four .result) (at .loop .i + 4) ≡ feedAll (start .register) (start .bytes .now) =
     ap (λ (n : ℕ). feedAll n (drop (at .loop .i + 4) (start .bytes .now)))
     (c .enter-four .ensures ∙ ap (λ (n : ℕ). standsFor (at .loop .wide * 4294967296 + n)) (c .before .four-of .ensures))
-    ∙ four-in (start .bytes .now) (byte-each (at .before .before .before)) (at .loop .wide) (at .loop .i) (at .loop .inv .0) (omega arith)
+    ∙ four-in feedByte standsFor byte-behind (start .bytes .now) (byte-each (at .before .before .before)) (at .loop .wide) (at .loop .i) (at .loop .inv .0) (omega arith)
     ∙ at .loop .inv .3 in
     (c .enter-four .ok, omega arith, omega arith, fed)
 

@@ -51,9 +51,21 @@ returns-11 c = rw (c .match .keys11)
 
 returns-12 : tie.Need-returns-12
 unfolding namedOf namedIn
-returns-12 c =
+returns-12 c = rw (c .match .keys12)
+
+returns-13 : tie.Need-returns-13
+unfolding namedOf namedIn
+returns-13 c = rw (c .match .keys13)
+
+returns-14 : tie.Need-returns-14
+unfolding namedOf namedIn
+returns-14 c = rw (c .match .keys14)
+
+returns-15 : tie.Need-returns-15
+unfolding namedOf namedIn
+returns-15 c =
     let others = c .match .rest in
-    rw (ne-eqb _ _ (others .0 .0 .0 .0 .0 .0 .0 .0 .0 .0 .1), ne-eqb _ _ (others .0 .0 .0 .0 .0 .0 .0 .0 .0 .1), ne-eqb _ _ (others .0 .0 .0 .0 .0 .0 .0 .0 .1), ne-eqb _ _ (others .0 .0 .0 .0 .0 .0 .0 .1), ne-eqb _ _ (others .0 .0 .0 .0 .0 .0 .1), ne-eqb _ _ (others .0 .0 .0 .0 .0 .1), ne-eqb _ _ (others .0 .0 .0 .0 .1), ne-eqb _ _ (others .0 .0 .0 .1), ne-eqb _ _ (others .0 .0 .1), ne-eqb _ _ (others .0 .1), ne-eqb _ _ (others .1))
+    rw (ne-eqb _ _ (others .0 .0 .0 .0 .0 .0 .0 .0 .0 .0 .0 .0 .0 .1), ne-eqb _ _ (others .0 .0 .0 .0 .0 .0 .0 .0 .0 .0 .0 .0 .1), ne-eqb _ _ (others .0 .0 .0 .0 .0 .0 .0 .0 .0 .0 .0 .1), ne-eqb _ _ (others .0 .0 .0 .0 .0 .0 .0 .0 .0 .0 .1), ne-eqb _ _ (others .0 .0 .0 .0 .0 .0 .0 .0 .0 .1), ne-eqb _ _ (others .0 .0 .0 .0 .0 .0 .0 .0 .1), ne-eqb _ _ (others .0 .0 .0 .0 .0 .0 .0 .1), ne-eqb _ _ (others .0 .0 .0 .0 .0 .0 .1), ne-eqb _ _ (others .0 .0 .0 .0 .0 .1), ne-eqb _ _ (others .0 .0 .0 .0 .1), ne-eqb _ _ (others .0 .0 .0 .1), ne-eqb _ _ (others .0 .0 .1), ne-eqb _ _ (others .0 .1), ne-eqb _ _ (others .1))
 
 pub of-number-spec : {M : Type 1} → statement M
 of-number-spec =
@@ -70,4 +82,7 @@ of-number-spec =
     returns-9
     returns-10
     returns-11
-    returns-12)
+    returns-12
+    returns-13
+    returns-14
+    returns-15)

@@ -1,0 +1,3 @@
+pub mod Folding
+pub mod Laws
+pub mod OneAnswer

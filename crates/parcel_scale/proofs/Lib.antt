@@ -1,0 +1,4 @@
+pub mod Frames
+pub mod OneAnswer
+pub mod Rows
+pub mod Values
