@@ -4,7 +4,7 @@ from pathlib import Path
 from typing import NamedTuple
 
 from definitions import definitions_in
-from texts import PROMISES, Finding, bare_lines, crates, files_of, is_program, once, section_of
+from texts import OF_LAWS, PROMISES, Finding, bare_lines, crates, files_of, is_program, once, section_of
 
 
 class Row(NamedTuple):
@@ -15,7 +15,7 @@ class Row(NamedTuple):
 
 @once
 def rows_of(crate: str) -> dict[str, Row]:
-    """The rows under a crate's heading, by the function (of `demands`: the law) that each begins with."""
+    """The rows under a crate's heading, by the function (of a crate of laws: the law) that each begins with."""
     found = {}
     for number, line in section_of(crate):
         if row := re.match(r'\| `([\w-]+)` \|', line):
@@ -47,7 +47,7 @@ def law_of(crate: str, row: Row) -> list[Finding]:
 def findings() -> list[Finding]:
     found = []
     for crate in crates():
-        if is_program(crate) or crate == 'demands':
+        if is_program(crate) or crate in OF_LAWS:
             continue
         rows = rows_of(crate)
         functions = public_functions(crate)

@@ -79,6 +79,9 @@ def section_of(crate: str) -> list[tuple[int, str]]:
     return found
 
 
+OF_LAWS = ('register', 'demands')  # crates that have laws in place of functions, and wrong programs of these
+
+
 def is_program(crate: str) -> bool:
     return (ROOT / 'crates' / crate / 'src' / 'main.rt').is_file()
 

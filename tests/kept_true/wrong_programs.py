@@ -6,7 +6,7 @@ from pathlib import Path
 from typing import NamedTuple
 
 from promises import Row, rows_of
-from texts import PROMISES, ROOT, Finding, crates, forget, lines_of
+from texts import OF_LAWS, PROMISES, ROOT, Finding, crates, forget, lines_of
 
 OF_DEFINITION = ' †'  # the definition was made wrong, and the code as it is was refused
 BESIDE_GATE = ' ‡'
@@ -41,8 +41,8 @@ def edits_of(crate: str) -> list[Edit]:
 
 
 def row_name(edit: Edit) -> str:
-    """`demands` has laws in place of functions, and a law's name has hyphens."""
-    return edit.function.replace('_', '-') if edit.crate == 'demands' else edit.function
+    """A crate of laws has them in place of functions, and a law's name has hyphens."""
+    return edit.function.replace('_', '-') if edit.crate in OF_LAWS else edit.function
 
 
 def labels(row: Row) -> list[str]:
@@ -106,7 +106,7 @@ def written(row: str, edits: list[Edit]) -> str:
 
 
 def write() -> None:
-    """Makes the last columns of docs/PROMISES.md anew. Under `demands` rows come and go with the edits: they have no other column."""
+    """Makes the last columns of docs/PROMISES.md anew. Under a crate of laws rows come and go with the edits: they have no other column."""
     lines = list(lines_of(PROMISES))
     for crate in crates():
         by_row: dict[str, list[Edit]] = {}
@@ -115,7 +115,7 @@ def write() -> None:
         rows = rows_of(crate)
         for name, row in rows.items():
             lines[row.line - 1] = written(lines[row.line - 1], by_row.get(name, []))
-        if crate == 'demands' and rows:
+        if crate in OF_LAWS and rows:
             first, last = min(row.line for row in rows.values()), max(row.line for row in rows.values())
             laws = '\n'.join(written(f'| `{name}` | |', by_row[name]) for name in sorted(by_row))
             # one element for all of them, so that the lines of the sections below keep their places

@@ -1,6 +1,6 @@
 -- Shown: the laws of the check that the layers above go by: feeding in two parts, the register below 256, linearity over exclusive or,
 -- a body with its check feeds to 0, and no other last byte does. Why: the register's laws, for eight bits and 69h.
-use Prim.Native.Nat.{ℕ, zero, suc, _/_, _^_, _<_}
+use Prim.Native.Nat.{ℕ, _/_, _^_, _<_}
 use mathlib.Core.Path.{_≡_, _∙_, refl, sym, ap}
 use mathlib.Core.List.{List, [], _∷_, _++_}
 use native.Mathlib.Omega.{arith}

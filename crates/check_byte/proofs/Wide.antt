@@ -1,6 +1,6 @@
 -- Shown: what a wide number stands for, and that bits come to stand behind it by entering the register that it stands for.
 -- Why: the register's laws, for numbers of 64 bits.
-use Prim.Native.Nat.{ℕ, suc, _+_, _*_, _/_, _%_, _^_, _<_}
+use Prim.Native.Nat.{ℕ, _+_, _*_, _/_, _%_, _^_, _<_}
 use mathlib.Core.Path.{_≡_, _∙_, refl, sym, ap}
 use native.Mathlib.Omega.{arith}
 use lib.Dec.{lit≤}

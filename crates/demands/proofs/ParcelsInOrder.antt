@@ -20,7 +20,7 @@ use Rattle.parcel_scale.specs.declared.parcels.Parcel.the-variants.{Nack}
 use Rattle.parcel_scale.specs.declared.reading.ParcelRead.{ParcelRead}
 use Rattle.parcel_scale.specs.declared.reading.ParcelRead.the-variants as read-as
 use Rattle.parcel_scale.specs.Frame.{headed, needs, bodyIn}
-use Rattle.parcel_scale.specs.Layouts.{Row, Found, known, unknown, rowOf, numbersIn}
+use Rattle.parcel_scale.specs.Layouts.{Found, known, unknown, rowOf, numbersIn}
 use Rattle.parcel_scale.specs.Reading.{sized, within, whole, checked, readRow, readCode, readBody, judgedFrame, afterFrame, readParcel}
 use Rattle.demands.specs.Messages.{ExactlyWhere}
 use Rattle.demands.specs.Parcels.{ofRow, codeKnown, lengthRight, fieldsRight, Told, OneAnswerInOrder, BehindTheCheck}

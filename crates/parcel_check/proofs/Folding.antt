@@ -1,12 +1,11 @@
 -- Shown: what stands above 32 or 16 bits of a wide number is folded in below, and the number stands for the same register.
 -- Why: both ways are linear over exclusive or, and a computed test finds them equal at each single bit.
 use Prim.Native.Nat.{ℕ, _+_, _*_, _/_, _%_, _^_, _<_}
-use mathlib.Core.Path.{_≡_, _∙_, refl, sym, ap, ap₂}
+use mathlib.Core.Path.{_≡_, _∙_, sym, ap}
 use native.Mathlib.Nat.{mod-lt}
 use lib.Dec.{lit<}
 use lib.Bits.{bitXor, xor-shifted}
 use lib.Pow.{split}
-use Rattle.register.specs.Register.{shifted, bitsIn}
 use Rattle.register.proofs.SingleBits.{Linear, itself-linear, down-linear, low-linear, up-linear, folded-linear, fed-linear, agree}
 use Rattle.parcel_check.specs.Check.{shiftWord, enterBits}
 use Rattle.parcel_check.proofs.Laws.{shifts, bits-linear, standsFor, itself}

@@ -1,6 +1,6 @@
--- Shown: what a row makes of the data behind its code, test by test, and the numbers that data hold by their places.
--- Why: the tests are those of `readRow`, and data of known length are their bytes by their places.
-use Prim.Native.Nat.{ℕ, _+_, _*_, _≤_, _<_}
+-- Shown: what a row without fields makes of the data behind its code, and the numbers that a weight's data hold by their places.
+-- Why: data of known length are their bytes by their places.
+use Prim.Native.Nat.{ℕ, _≤_}
 use mathlib.Core.Path.{_≡_, _∙_, refl, sym, ap}
 use mathlib.Core.Bool.{Bool, true, false, cond, not, _&&_}
 use mathlib.Core.List.{List, [], _∷_}
@@ -8,31 +8,16 @@ use native.Mathlib.Nat.{add-zero}
 use native.Mathlib.Omega.{arith}
 use borrow.Author.Tests.{le-leb}
 use lib.Dec.{leb, eqb}
-use lib.ListN.{length, take, drop, getD}
+use lib.ListN.{length, take, getD}
 use Rattle.laws.proofs.ByteLists.{placed, front-by-place, by-place}
-use Rattle.refusal.specs.declared.Refusal.the-variants.{LengthWrong, FieldOutside}
+use Rattle.refusal.specs.declared.Refusal.the-variants.{LengthWrong}
 use Rattle.refusal.specs.declared.Verdict.the-variants.{Good}
 use Rattle.refusal.specs.Numbers.{refuseIf, byVerdict}
 use Rattle.low_first.specs.LowFirst.{lowFirst}
 use Rattle.parcel_scale.specs.declared.parcels.Parcel.{Parcel}
-use Rattle.parcel_scale.specs.declared.reading.ParcelRead.{ParcelRead}
 use Rattle.parcel_scale.specs.declared.reading.ParcelRead.the-variants as read-as
-use Rattle.parcel_scale.specs.Layouts.{Row, Weight, Division, Stable, numbersIn, inValues, widths}
-use Rattle.parcel_scale.specs.Reading.{sized, within, readRow}
-
--- 7, 8, or the message
-module _ (used : ℕ) (row : Row) (data′ : List ℕ) where
-  pub other-length : sized row data′ ≡ false → readRow used row data′ ≡ read-as.Refused LengthWrong
-  unfolding readRow
-  other-length e = rw e
-
-  pub outside : sized row data′ ≡ true → within row data′ ≡ false → readRow used row data′ ≡ read-as.Refused FieldOutside
-  unfolding readRow
-  outside e f = rw (e, f)
-
-  pub told : sized row data′ ≡ true → within row data′ ≡ true → readRow used row data′ ≡ read-as.Parcel (row .says (numbersIn (row .fields) data′)) used
-  unfolding readRow
-  told e f = rw (e, f)
+use Rattle.parcel_scale.specs.Layouts.{Weight, Division, Stable, numbersIn, inValues, widths}
+use Rattle.parcel_scale.specs.Reading.{readRow}
 
 -- a row without fields: 7, or its message
 pub plain-row : (used code : ℕ) (parcel : Parcel) (data′ : List ℕ)

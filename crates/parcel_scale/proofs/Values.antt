@@ -1,7 +1,7 @@
 -- Shown: the table of divisions; a count times a division is at most 2^31 times 10^7, sign aside, and so fits 64 bits; when a weight's fields are legal.
 -- Why: a computed test over five entries; the size of a product is the product of the sizes.
-use Prim.Native.Nat.{ℕ, suc, _*_, _%_, _^_, _≤_, _<_}
-use mathlib.Core.Path.{_≡_, _∙_, refl, sym, ap, subst}
+use Prim.Native.Nat.{ℕ, suc, _*_, _%_, _^_, _≤_}
+use mathlib.Core.Path.{_≡_, _∙_, sym, ap, subst}
 use mathlib.Core.Bool.{true, false, _&&_, and-eq-true-iff}
 use mathlib.Core.List.{List, [], _∷_, _++_}
 use native.Mathlib.Nat.{mul-le-mul}

@@ -7,7 +7,6 @@ use lib.ListN.{take, drop, getD}
 use lib.Dec.{leb, eqb}
 use Rattle.low_first.specs.LowFirst.{lowFirst, lowBytes}
 use Rattle.low_first.specs.Signed.{signedOf, wordOf}
-use Rattle.parcel_scale.specs.declared.parcels.ParcelWeight.{ParcelWeight}
 use Rattle.parcel_scale.specs.declared.parcels.Parcel.{Parcel}
 use Rattle.parcel_scale.specs.declared.parcels.Parcel.the-variants.{GetWeight, SetTare, GetDeviceId, AckWeight, AckCommand, AckDeviceId, Nack}
 

@@ -143,7 +143,9 @@ pub fn read(bytes: &[u8]) -> ParcelRead
         return ParcelRead::Refused(Refusal::BytesMissing);
     }
     let end = BODY_AT + length;
-    if check_of(&bytes[BODY_AT..end]) != half(bytes[end], bytes[end + 1]) {
+    let low = bytes[end];
+    let high = bytes[end + 1];
+    if check_of(&bytes[BODY_AT..end]) != half(low, high) {
         return ParcelRead::Refused(Refusal::ParcelCheckWrong);
     }
     read_body(&bytes[BODY_AT..end], end + 2)

@@ -1,6 +1,6 @@
 -- Shown: feeding in two parts; a register stays within its bits; feeding is linear over exclusive or; a number that fits enters an empty register
 -- as it is. Why: one shift is linear, so all of feeding is.
-use Prim.Native.Nat.{ℕ, zero, suc, _+_, _-_, _*_, _/_, _%_, _^_, _≤_, _<_}
+use Prim.Native.Nat.{ℕ, zero, suc, _+_, _-_, _*_, _/_, _%_, _^_, _<_}
 use mathlib.Core.Path.{_≡_, _∙_, refl, subst, sym, ap, ap₂}
 use mathlib.Core.List.{List, [], _∷_, _++_}
 use native.Mathlib.Omega.{arith}

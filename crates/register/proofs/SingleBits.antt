@@ -1,6 +1,6 @@
 -- Shown: two maps that are linear over exclusive or and agree on every single bit agree on every number. Also what such maps are made of.
 -- Why: a number is its top bit and the rest, folded together.
-use Prim.Native.Nat.{ℕ, zero, suc, _+_, _*_, _/_, _%_, _^_, _<_}
+use Prim.Native.Nat.{ℕ, zero, suc, _*_, _/_, _%_, _^_, _<_}
 use mathlib.Core.Path.{_≡_, _∙_, refl, subst, sym, ap, ap₂}
 use mathlib.Core.Bool.{Bool}
 use native.Mathlib.Nat.{mod-lt, zero-mul, one-mul, add-zero}

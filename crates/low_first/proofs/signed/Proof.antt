@@ -1,10 +1,7 @@
 -- `low_first::signed` meets its contract: the signed number that a word stands for.
 -- Why: below 2^31 the word is the number; from there up it is one less than the negation of how far the word is below 2^32 - 1.
-use Prim.Native.Nat.{ℕ, suc, _-_, _^_, _<_}
-use mathlib.Core.Path.{_≡_, _∙_, sym, ap}
-use lib.IntN.{ℤ, pos, negℤ}
-use mir.Syntax.{w32}
-use mir.ValLaws.{toZ-pos}
+use Prim.Native.Nat.{suc, _-_}
+use mathlib.Core.Path.{_≡_, _∙_, sym}
 use native.Mathlib.Omega.{arith}
 use borrow.Author.Needs.{needs}
 use borrow.Author.Tests.{le-ltb}

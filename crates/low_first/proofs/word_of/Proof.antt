@@ -1,7 +1,5 @@
 -- `low_first::word_of` meets its contract: the word of a signed number.
 -- Why: a number not below 0 is its own word; one below 0 is as far below -1 as its word is below 2^32 - 1.
-use Prim.Native.Nat.{ℕ, suc, _-_, _^_, _<_}
-use mathlib.Core.Path.{_≡_, _∙_, sym, ap}
 use mir.Syntax.{w32}
 use native.Mathlib.Omega.{arith}
 use Rattle.low_first.specs.Signed.{wordOf}

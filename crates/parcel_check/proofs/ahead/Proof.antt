@@ -1,15 +1,13 @@
 -- `parcel_check::ahead` meets its contract: the bytes ahead of the first whole four as a number, and what is left feeds to the check.
 -- Why: a byte comes to stand behind a number by entering the register that it stands for.
-use Prim.Native.Nat.{ℕ, suc, _+_, _-_, _*_, _%_, _^_, _≤_, _<_}
-use mathlib.Core.Path.{_≡_, _∙_, refl, subst, sym, ap}
-use mathlib.Core.List.{List}
+use Prim.Native.Nat.{ℕ, _+_, _-_, _*_, _%_, _^_, _≤_, _<_}
+use mathlib.Core.Path.{_≡_, _∙_, subst, sym, ap}
 use native.Mathlib.Omega.{arith}
 use native.Mathlib.Nat.{pow-le-pow-right, pow-suc, lt-of-lt-of-le}
 use native.Mathlib.Numerals.{add-one}
 use lib.Arith.{digits-lt}
 use lib.Dec.{lit<, lit≤}
 use lib.ListN.{length, drop, getD}
-use borrow.Author.Needs.{needs}
 use Rattle.register.specs.Register.{allIn}
 use Rattle.register.proofs.Slices.{one-in}
 use Rattle.parcel_check.specs.Check.{enterByte, parcelCheck}

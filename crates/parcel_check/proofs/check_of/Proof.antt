@@ -1,7 +1,7 @@
 -- `parcel_check::check_of` meets its contract: the check of a body.
 -- Why: what the bytes not yet fed make of the register that the wide number stands for is what the whole body makes of an empty one.
-use Prim.Native.Nat.{ℕ, _+_, _-_, _*_, _%_, _^_, _≤_, _<_}
-use mathlib.Core.Path.{_≡_, _∙_, sym, ap}
+use Prim.Native.Nat.{ℕ, _+_, _-_, _*_, _%_, _≤_, _<_}
+use mathlib.Core.Path.{_≡_, _∙_, ap}
 use mathlib.Core.List.{[], _∷_}
 use native.Mathlib.Omega.{arith}
 use lib.Bits.{bitXor, xor-lt}

@@ -1,6 +1,5 @@
 -- `parcel_check::register_of` meets its contract: the register that a wide number stands for.
 -- Why: what stands above 16 bits comes beside what stands below.
-use Prim.Native.Nat.{_%_}
 use borrow.Author.Needs.{needs}
 use Rattle.parcel_check.proofs.Folding.{in-halves}
 use Rattle.parcel_check.proofs.register_of.Statement.{statement}

@@ -1,6 +1,6 @@
 -- `parcel_scale::first_word` meets its contract: the four bytes at the front of data, as a word.
 -- Why: the front of four is its bytes by their places.
-use mathlib.Core.Path.{_≡_, _∙_, sym, ap}
+use mathlib.Core.Path.{_∙_, sym, ap}
 use Rattle.low_first.specs.LowFirst.{lowFirst}
 use Rattle.parcel_scale.proofs.Rows.{four-at-front}
 use borrow.Author.Needs.{needs}

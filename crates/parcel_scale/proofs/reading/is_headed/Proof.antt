@@ -1,6 +1,5 @@
 -- `parcel_scale::is_headed` meets its contract: three bytes at least, and they are the header.
 -- Why: the code's tests are the definition's.
-use mathlib.Core.Path.{_≡_, sym}
 use borrow.Author.Needs.{needs}
 use lib.Dec.{eqb}
 use lib.ListN.{getD}

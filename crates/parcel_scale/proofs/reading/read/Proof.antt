@@ -1,6 +1,6 @@
 -- `parcel_scale::read` meets its contract: lent bytes judged 20, 21, 22, and then what their body says.
 -- Why: length, body and check are those of the definition, by their places, and so are the tests.
-use Prim.Native.Nat.{ℕ, _+_, _-_, _≤_, _<_}
+use Prim.Native.Nat.{_+_, _≤_}
 use mathlib.Core.Path.{_≡_, _∙_, refl, sym, ap, ap₂}
 use mathlib.Core.Bool.{true}
 use native.Mathlib.Omega.{arith}
@@ -58,6 +58,15 @@ returns-3 c =
 add-end : tie.Need-add-end
 add-end c = search author.needs
 
+shared-slice-read-low : tie.Need-shared-slice-read-low
+shared-slice-read-low c = search author.needs
+
+add-high : tie.Need-add-high
+add-high c = search author.needs
+
+shared-slice-read-high : tie.Need-shared-slice-read-high
+shared-slice-read-high c = search author.needs
+
 sub-check-of : tie.Need-sub-check-of
 sub-check-of c = search author.needs
 
@@ -69,15 +78,6 @@ part-check-of-end c = search author.needs
 
 check-of-requires : tie.Need-check-of-requires
 check-of-requires c κs = search author.needs
-
-shared-slice-read-half-3 : tie.Need-shared-slice-read-half-3
-shared-slice-read-half-3 c = search author.needs
-
-add-half : tie.Need-add-half
-add-half c = search author.needs
-
-shared-slice-read-half-4 : tie.Need-shared-slice-read-half-4
-shared-slice-read-half-4 c = search author.needs
 
 half-requires-2 : tie.Need-half-requires-2
 half-requires-2 c κs = search author.needs
@@ -99,11 +99,11 @@ check-said c =
 
 check-made : (c : tie.After-half2)
     → parcelCheck (bodyIn (c .before .before .before .before .before .before .before .before .before .before .before .before .before .args .bytes .now))
-    ≡ c .before .before .before .check-of .result
+    ≡ c .before .check-of .result
 check-made c =
     let at = c .before .before .before .before .before .before in
     let bytes = at .before .before .before .before .before .before .before .args .bytes .now in
-    ap parcelCheck (body-in bytes (at .half .result) (length-said at) ∙ sym (part 5 (5 + at .half .result) bytes)) ∙ sym (c .before .before .before .check-of .ensures)
+    ap parcelCheck (body-in bytes (at .half .result) (length-said at) ∙ sym (part 5 (5 + at .half .result) bytes)) ∙ sym (c .before .check-of .ensures)
 
 returns-4 : tie.Need-returns-4
 returns-4 c =
@@ -141,29 +141,6 @@ returns-5 c =
 pub read-spec : {M : Type 1} → statement M
 read-spec =
     tie.close
-    (tie.spec
-    is-headed-requires
-    returns
-    returns-2
-    shared-slice-read-half
-    shared-slice-read-half-2
-    half-requires
-    cast-length
-    sub-if3
-    returns-3
-    add-end
-    sub-check-of
-    part-check-of-start
-    part-check-of-end
-    check-of-requires
-    shared-slice-read-half-3
-    add-half
-    shared-slice-read-half-4
-    half-requires-2
-    returns-4
-    sub-read-body
-    part-read-body-start
-    part-read-body-end
-    add-read-body
-    read-body-requires
-    returns-5)
+    (tie.spec is-headed-requires returns returns-2 shared-slice-read-half shared-slice-read-half-2 half-requires cast-length sub-if3 returns-3 add-end shared-slice-read-low add-high
+    shared-slice-read-high sub-check-of part-check-of-start part-check-of-end check-of-requires half-requires-2 returns-4 sub-read-body part-read-body-start part-read-body-end
+    add-read-body read-body-requires returns-5)

@@ -1,6 +1,6 @@
 -- `parcel_scale::read_body` meets its contract: what a body says, and 6 for an empty one.
 -- Why: a body that is not empty is its code and the data behind it.
-use mathlib.Core.Path.{_≡_, _∙_, sym, ap}
+use mathlib.Core.Path.{_∙_, sym, ap}
 use Prim.Native.Nat.{_-_}
 use native.Mathlib.Omega.{arith}
 use lib.ListN.{length, drop, getD, length-drop}

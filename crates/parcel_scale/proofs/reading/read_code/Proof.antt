@@ -1,6 +1,6 @@
 -- `parcel_scale::read_code` meets its contract: what stands behind a code.
 -- Why: in an arm the code is the one that the arm names, and its row is found; in the last it is none of them.
-use mathlib.Core.Path.{_≡_, _∙_, sym}
+use mathlib.Core.Path.{_∙_, sym}
 use borrow.Author.Tests.{ne-eqb}
 use borrow.Author.Needs.{needs}
 use Rattle.parcel_scale.specs.declared.parcels.Parcel.the-variants.{GetWeight, GetDeviceId, AckCommand, Nack}

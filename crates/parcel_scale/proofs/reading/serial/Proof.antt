@@ -1,7 +1,6 @@
 -- `parcel_scale::serial` meets its contract: what stands behind the code 50.
 -- Why: its row has one field of four bytes, which may have any value.
 use Prim.Native.Nat.{_≤_}
-use mathlib.Core.Path.{_≡_, _∙_, sym, ap}
 use native.Mathlib.Omega.{arith}
 use borrow.Author.Tests.{eq-eqb, ne-eqb, le-leb}
 use borrow.Author.Needs.{needs}

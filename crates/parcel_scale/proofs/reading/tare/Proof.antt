@@ -1,7 +1,6 @@
 -- `parcel_scale::tare` meets its contract: what stands behind the code A3.
 -- Why: its row has one field of four bytes, a signed number, which may have any value.
 use Prim.Native.Nat.{_≤_}
-use mathlib.Core.Path.{_≡_, _∙_, sym, ap}
 use native.Mathlib.Omega.{arith}
 use mir.Syntax.{w32}
 use mir.ValLaws.{toZ-ofZ}

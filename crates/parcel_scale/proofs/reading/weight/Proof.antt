@@ -1,18 +1,15 @@
 -- `parcel_scale::weight` meets its contract: what stands behind the code 10.
 -- Why: its row has three fields; the count may have any value, and the marks are tested as the row says.
-use Prim.Native.Nat.{ℕ, _≤_}
-use mathlib.Core.Path.{_≡_, _∙_, sym, ap}
-use mathlib.Core.Bool.{Bool, true, false, _&&_}
-use mathlib.Core.List.{List, [], _∷_}
+use Prim.Native.Nat.{_≤_}
+use mathlib.Core.Path.{_≡_, _∙_, sym}
 use native.Mathlib.Omega.{arith}
 use mir.Syntax.{w32}
 use mir.ValLaws.{toZ-ofZ}
 use borrow.Author.Tests.{eq-eqb, ne-eqb, not-true, not-false}
 use borrow.Author.Needs.{needs}
-use lib.Dec.{leb}
 use lib.ListN.{length, take, getD}
 use Rattle.low_first.specs.LowFirst.{lowFirst}
-use Rattle.parcel_scale.specs.Layouts.{rowIn, rowOf, widths, numbersIn, inValues}
+use Rattle.parcel_scale.specs.Layouts.{rowIn, rowOf, widths}
 use Rattle.parcel_scale.specs.Reading.{readRow, readCode}
 use Rattle.parcel_scale.proofs.Rows.{weight-numbers, weight-within, weight-outside}
 use Rattle.parcel_scale.proofs.reading.weight.Statement.{statement}

@@ -1,10 +1,10 @@
 -- `parcel_scale::value_of` meets its contract: the count times its division, and 8 for marks outside their values.
 -- Why: the test is the marks', and the product fits 64 bits.
 use Prim.Native.Nat.{ℕ}
-use mathlib.Core.Path.{_≡_, _∙_, sym, ap}
-use mathlib.Core.Bool.{true, and-eq-true-iff}
+use mathlib.Core.Path.{_∙_, sym, ap}
+use mathlib.Core.Bool.{and-eq-true-iff}
 use lib.Dec.{leb}
-use lib.IntN.{ℤ, pos, _*ℤ_}
+use lib.IntN.{pos, _*ℤ_}
 use mir.Syntax.{w32, w64}
 use mir.Val.{SFits}
 use mir.ValLaws.{toZ-ofZ, toZ-pos}

@@ -1,6 +1,6 @@
 -- `parcel_scale::put` meets its contract: the bytes of a body as they go out, at the front of a room.
 -- Why: header, length, body and check are laid one behind the other, and so are one piece.
-use mathlib.Core.Path.{_≡_, _∙_, sym}
+use mathlib.Core.Path.{_∙_, sym}
 use mathlib.Core.List.{List, [], _∷_, _++_, append-assoc}
 use Prim.Native.Nat.{ℕ}
 use native.Mathlib.Omega.{arith}

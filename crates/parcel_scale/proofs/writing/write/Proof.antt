@@ -1,6 +1,6 @@
 -- `parcel_scale::write` meets its contract: each of the seven messages is judged 6, 8, 9 and written.
 -- Why: in an arm the message is the one that the arm names; its row is found, and its body is the code with the fields behind it.
-use mathlib.Core.Path.{_≡_, _∙_, sym, ap}
+use mathlib.Core.Path.{_∙_, sym, ap}
 use mir.Syntax.{w32}
 use mir.Val.{SFits}
 use mir.ValLaws.{toZ-ofZ}

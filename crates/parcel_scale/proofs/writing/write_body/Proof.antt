@@ -1,7 +1,6 @@
 -- `parcel_scale::write_body` meets its contract: a body's bytes as they go out, into lent room, judged 9.
 -- Why: they are seven more than the body's, and what is put there is the bytes.
-use Prim.Native.Nat.{ℕ, _+_, _≤_, _<_}
-use mathlib.Core.Path.{_≡_, _∙_, sym, ap}
+use Prim.Native.Nat.{_≤_, _<_}
 use native.Mathlib.Omega.{arith}
 use borrow.Author.Needs.{needs}
 use borrow.Author.Tests.{lt-ltb, le-ltb}

@@ -1,5 +1,4 @@
 -- `parcel_vectors::bits_of` is safe: a number not below 0 is its own bits, and one below 0 is as far below -1 as its bits are below 2^64 - 1.
-use mathlib.Core.Path.{_≡_}
 use native.Mathlib.Omega.{arith}
 use mir.Syntax.{w64}
 use Rattle.low_first.proofs.SignedWords.{Below, is-below, up-casts, next-fits, below-fits, below-told}
