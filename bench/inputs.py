@@ -4,12 +4,13 @@ parcel messages."""
 SIZE = 1_000_000
 
 
-def register_of(data: bytes) -> int:
+def register_of(data: bytes, top: int = 128, fold: int = 0x69) -> int:
+    """The register that bytes make of an empty one: what its top bit counts, and what is folded in where a 1 falls out of it."""
     register = 0
     for byte in data:
         for place in range(7, -1, -1):
             bit = byte >> place & 1
-            register = register * 2 + bit if register < 128 else (register - 128) * 2 + bit ^ 0x69
+            register = register * 2 + bit if register < top else (register - top) * 2 + bit ^ fold
     return register
 
 
@@ -73,19 +74,10 @@ MIXED_RECORDS = [
 RECORDS = {"weighings": filled(b"".join(WEIGHINGS)), "mixed records": filled(b"".join(MIXED_RECORDS))}
 
 
-def parcel_check(body: bytes) -> int:
-    register = 0
-    for byte in body:
-        for place in range(7, -1, -1):
-            bit = byte >> place & 1
-            register = register * 2 + bit if register < 0x8000 else (register - 0x8000) * 2 + bit ^ 0x1021
-    return register
-
-
 def parcel_of(words: str, piece: int = 14) -> bytes:
     """A message of the parcel scales, with zeros behind it up to the length of a piece: they are not looked at."""
     body = bytes.fromhex(words)
-    sent = bytes.fromhex("F855CE") + len(body).to_bytes(2, "little") + body + parcel_check(body).to_bytes(2, "little")
+    sent = bytes.fromhex("F855CE") + len(body).to_bytes(2, "little") + body + register_of(body, 0x8000, 0x1021).to_bytes(2, "little")
     return sent.ljust(piece, b"\0")
 
 
