@@ -62,8 +62,8 @@ enum {
     QUAY_PARCEL_CHECK_WRONG = 22 /* the check of such a message is wrong */
 };
 
-/* 20, 21 and 22 are earned by the messages of the parcel scales at the foot desk (document 003). This library reads and writes them, but nothing of
- * this header hands them over yet, so that no function here answers these three. Of the tare (A3, in grams, with its sign) 003 says: a tare of 0 takes
+/* 20, 21 and 22 are earned by the messages of the parcel scales at the foot desk (document 003). The Rattle library reads and writes them
+ * (`parcel_scale`). libquay.a has nothing of them yet, so that no function of this header answers these three. Of the tare (A3, in grams, with its sign) 003 says: a tare of 0 takes
  * the weight that stands on the scale as tare. It does not clear the tare. */
 
 /* ---- numbers of the fields */

@@ -19,7 +19,7 @@ use Rattle.parcel_scale.specs.Layouts.{Row, Found, known, unknown, rowOf, codeO
 use Rattle.parcel_scale.specs.Reading.{sized, within, readRow, readCode, readBody, readParcel}
 use Rattle.parcel_scale.specs.Writing.{fieldsOf, bodyOf, parcelBytes, legalFields, writtenParcel}
 use Rattle.parcel_scale.proofs.Frames.{framed-length}
-use Rattle.demands.specs.Parcels.{OfItsTypes, ofRow, lengthRight, fieldsRight, ParcelReadsBack, SingleWriting, TwoWritings}
+use Rattle.demands.specs.Parcels.{OfItsTypes, ofRow, dataLengthRight, dataFieldsRight, ParcelReadsBack, SingleWriting, TwoWritings}
 use Rattle.demands.proofs.ParcelFields.{laid-length, laid-back, numbers-back}
 use Rattle.demands.proofs.ParcelFrames.{framed-pieces, header-headed, check-told, body-bytes, framed-back}
 use Rattle.demands.proofs.ParcelRows.{right-row, has-row}
@@ -80,7 +80,7 @@ two-writings first second typed typed-too legal legal-too same =
 -- a body's message may be written, and its body is the one that was read
 record SaidRight (body : List ℕ) (parcel : Parcel) : Type 0 where
   legal : legalFields parcel ≡ true
-  back : T (areBytes body) → lengthRight body ≡ true → bodyOf parcel ≡ body
+  back : T (areBytes body) → dataLengthRight body ≡ true → bodyOf parcel ≡ body
 
 module _ (code : ℕ) (data′ : List ℕ) (row : Row) (found : rowOf code ≡ known row) (right : within row data′ ≡ true) where
   abbrev said : Parcel
@@ -104,7 +104,7 @@ module _ (code : ℕ) (data′ : List ℕ) (row : Row) (found : rowOf code ≡ k
   unfolding bodyOf
   said-back all is-sized = rw (code-of, fields-of, numbers-of, laid-back (row .fields) data′ all (eqb-true (length data′) (widths (row .fields)) is-sized))
 
-said-right : (body : List ℕ) → fieldsRight body ≡ true → SaidRight body (saidIn body)
+said-right : (body : List ℕ) → dataFieldsRight body ≡ true → SaidRight body (saidIn body)
 said-right [] right = absurd (true≢false (sym right))
 said-right (code ∷ data′) right = by-found (rowOf code) refl right
   where

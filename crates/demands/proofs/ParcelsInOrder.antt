@@ -23,7 +23,7 @@ use Rattle.parcel_scale.specs.Frame.{headed, needs, bodyIn}
 use Rattle.parcel_scale.specs.Layouts.{Found, known, unknown, rowOf, numbersIn}
 use Rattle.parcel_scale.specs.Reading.{sized, within, whole, checked, readRow, readCode, readBody, judgedFrame, afterFrame, readParcel}
 use Rattle.demands.specs.Messages.{ExactlyWhere}
-use Rattle.demands.specs.Parcels.{ofRow, codeKnown, lengthRight, fieldsRight, Told, OneAnswerInOrder, BehindTheCheck}
+use Rattle.demands.specs.Parcels.{ofRow, codeKnown, dataLengthRight, dataFieldsRight, Accepts, OneAnswerInOrder, BehindTheCheck}
 use Rattle.demands.proofs.ParcelFrames.{Pieces, pieces-of, pieces-more, needs-in, body-in, check-in, whole-in, headed-in}
 use Rattle.demands.proofs.TestsInOrder.{Test, must, judged, exactly, AllPass, all-pass, through}
 
@@ -34,7 +34,7 @@ abbrev meaningTests : Bool → Bool → Bool → List Test
 meaningTests isKnown isSized isWithin = must isKnown CodeUnknown ∷ must isSized LengthWrong ∷ must isWithin FieldOutside ∷ []
 
 abbrev bodyTests : List ℕ → List Test
-bodyTests body = meaningTests (codeKnown body) (lengthRight body) (fieldsRight body)
+bodyTests body = meaningTests (codeKnown body) (dataLengthRight body) (dataFieldsRight body)
 
 -- 20, 21, 22, and then they
 abbrev pub tests : List ℕ → List Test
@@ -104,9 +104,9 @@ module _ (bytes : List ℕ) where
     λ (e : judged (tests bytes) ≡ Refused why). rw (read-so bytes, e),
   )
 
-  told : ExactlyWhere (Told bytes) (AllPass (tests bytes))
+  told : ExactlyWhere (Accepts bytes) (AllPass (tests bytes))
   told = (
-    λ (it : Told bytes). accepted-so bytes (it .parcel) (needs bytes) (it .told) .passed,
+    λ (it : Accepts bytes). accepted-so bytes (it .parcel) (needs bytes) (it .told) .passed,
     λ (passed : AllPass (tests bytes)). record { parcel = saidIn (bodyIn bytes); told = rw (read-so bytes, all-pass (tests bytes) .1 passed) },
   )
 

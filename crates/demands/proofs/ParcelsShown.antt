@@ -1,6 +1,8 @@
--- Shown: the seven messages, the edges of reading and of writing, values, a header inside a body, a check fed through, and nobody's numbers.
+-- Shown: the seven messages, the edges of reading and of writing, values, a header inside a body, a check fed through, nobody's numbers, the types.
 -- Why: each is computed from the definitions.
 use mathlib.Core.Path.{refl}
+use native.Mathlib.Nat.{lt-irrefl}
+use lib.Dec.{lit<}
 use Rattle.refusal.specs.Numbers.{namedIn, namedOf}
 use Rattle.low_first.specs.LowFirst.{lowFirst, lowBytes}
 use Rattle.low_first.specs.Signed.{signedOf, wordOf}
@@ -10,7 +12,7 @@ use Rattle.parcel_scale.specs.Layouts.{rowIn, rowOf, widths, numbersIn, laidOut
 use Rattle.parcel_scale.specs.Reading.{readRow, readCode, readBody, judgedFrame, readParcel}
 use Rattle.parcel_scale.specs.Value.{parcelValue}
 use Rattle.parcel_scale.specs.Writing.{fieldsOf, bodyOf, parcelBytes, legalFields, judgedParcel, writtenParcel}
-use Rattle.demands.specs.ParcelsShown.{SevenMessages, ReadAtTheEdges, WrittenAtTheEdges, ValuesShown, HeaderInsideABody, CheckFedThrough, NobodysNumbers}
+use Rattle.demands.specs.ParcelsShown.{SevenMessages, ReadAtTheEdges, WrittenAtTheEdges, ValuesShown, HeaderInsideABody, CheckFedThrough, NobodysNumbers, OfTheirTypes}
 
 pub seven-messages : SevenMessages
 unfolding shiftWord enterBits enterByte parcelCheck lowFirst lowBytes signedOf wordOf framed headed lengthIn needs bodyIn checkIn rowIn rowOf widths numbersIn laidOut inValues readRow readCode readBody judgedFrame readParcel fieldsOf bodyOf parcelBytes
@@ -39,3 +41,12 @@ check-fed-through = refl
 pub nobodys-numbers : NobodysNumbers
 unfolding namedIn namedOf
 nobodys-numbers = refl
+
+pub of-their-types : OfTheirTypes
+of-their-types = record {
+  lowest = (record { sfits = lit< tt }, record { sfits = lit< tt });
+  highest = (record { sfits = lit< tt }, record { sfits = lit< tt });
+  others = (tt, (tt, (tt, (tt, tt))));
+  beyond = λ fits. lt-irrefl 2147483648 (fits .sfits);
+  below = λ fits. lt-irrefl 2147483648 (fits .sfits);
+}

@@ -78,18 +78,18 @@ ofBody asked (code ∷ data′) = ofRow asked (rowOf code) data′
 abbrev pub codeKnown : List ℕ → Bool
 codeKnown = ofBody (λ (row : Row) (data′ : List ℕ). true)
 
-abbrev pub lengthRight : List ℕ → Bool
-lengthRight = ofBody sized
+abbrev pub dataLengthRight : List ℕ → Bool
+dataLengthRight = ofBody sized
 
-abbrev pub fieldsRight : List ℕ → Bool
-fieldsRight = ofBody within
+abbrev pub dataFieldsRight : List ℕ → Bool
+dataFieldsRight = ofBody within
 
 -- header, length and check are passed
 abbrev pub FramePassed : List ℕ → Type 0
 FramePassed bytes = (headed bytes ≡ true) × ((whole bytes ≡ true) × (checked bytes ≡ true))
 
 -- some message, with as many bytes used as header, length, body and check have
-pub record Told (bytes : List ℕ) : Type 0 where
+pub record Accepts (bytes : List ℕ) : Type 0 where
   pub parcel : Parcel
   pub told : readParcel bytes ≡ read-as.Parcel parcel (needs bytes)
 
@@ -98,9 +98,9 @@ pub record AnsweredInOrder (bytes : List ℕ) : Type 0 where
   pub missing : ExactlyWhere (readParcel bytes ≡ read-as.Refused BytesMissing) ((headed bytes ≡ true) × (whole bytes ≡ false))
   pub check : ExactlyWhere (readParcel bytes ≡ read-as.Refused ParcelCheckWrong) ((headed bytes ≡ true) × ((whole bytes ≡ true) × (checked bytes ≡ false)))
   pub code : ExactlyWhere (readParcel bytes ≡ read-as.Refused CodeUnknown) (FramePassed bytes × (codeKnown (bodyIn bytes) ≡ false))
-  pub data-length : ExactlyWhere (readParcel bytes ≡ read-as.Refused LengthWrong) (FramePassed bytes × ((codeKnown (bodyIn bytes) ≡ true) × (lengthRight (bodyIn bytes) ≡ false)))
-  pub field : ExactlyWhere (readParcel bytes ≡ read-as.Refused FieldOutside) (FramePassed bytes × ((codeKnown (bodyIn bytes) ≡ true) × ((lengthRight (bodyIn bytes) ≡ true) × (fieldsRight (bodyIn bytes) ≡ false))))
-  pub accepted : ExactlyWhere (Told bytes) (FramePassed bytes × ((codeKnown (bodyIn bytes) ≡ true) × ((lengthRight (bodyIn bytes) ≡ true) × (fieldsRight (bodyIn bytes) ≡ true))))
+  pub data-length : ExactlyWhere (readParcel bytes ≡ read-as.Refused LengthWrong) (FramePassed bytes × ((codeKnown (bodyIn bytes) ≡ true) × (dataLengthRight (bodyIn bytes) ≡ false)))
+  pub field : ExactlyWhere (readParcel bytes ≡ read-as.Refused FieldOutside) (FramePassed bytes × ((codeKnown (bodyIn bytes) ≡ true) × ((dataLengthRight (bodyIn bytes) ≡ true) × (dataFieldsRight (bodyIn bytes) ≡ false))))
+  pub accepted : ExactlyWhere (Accepts bytes) (FramePassed bytes × ((codeKnown (bodyIn bytes) ≡ true) × ((dataLengthRight (bodyIn bytes) ≡ true) × (dataFieldsRight (bodyIn bytes) ≡ true))))
 
 abbrev pub OneAnswerInOrder : Type 0
 OneAnswerInOrder = (bytes : List ℕ) → AnsweredInOrder bytes

@@ -22,6 +22,7 @@ use Rattle.parcel_scale.specs.declared.reading.ParcelRead.the-variants as read-
 use Rattle.parcel_scale.specs.Reading.{readParcel}
 use Rattle.parcel_scale.specs.Value.{parcelValue}
 use Rattle.parcel_scale.specs.Writing.{parcelBytes, writtenParcel}
+use Rattle.demands.specs.Parcels.{OfItsTypes}
 
 -- a weight by its three fields
 abbrev pub weighed : ℤ → ℕ → ℕ → ParcelWeight
@@ -33,7 +34,7 @@ pub record Sent : Type 0 where
   pub parcel : Parcel
   pub bytes : List ℕ
 
--- A0 "goes out as F8 55 CE 01 00 A0 A0 00"; a tare of -5 grams; 12,345 divisions of a gram and -5 of ten grams, stable; a serial
+-- A0 goes out as F8 55 CE 01 00 A0 A0 00; a tare of -5 grams; 12,345 divisions of a gram and -5 of ten grams, stable; a serial
 abbrev pub sevenMessages : List Sent
 sevenMessages =
     record { parcel = GetWeight; bytes = 0xF8 ∷ 0x55 ∷ 0xCE ∷ 0x01 ∷ 0x00 ∷ 0xA0 ∷ 0xA0 ∷ 0x00 ∷ [] }
@@ -104,7 +105,7 @@ pub record ReadAtTheEdges : Type 0 where
 
 -- ---- writing: 8 ahead of 9, and room for exactly the message is enough
 
-pub record Asked : Type 0 where
+pub record AskedWrite : Type 0 where
   pub parcel : Parcel
   pub room : List ℕ
   pub left : Left
@@ -116,12 +117,12 @@ untouched why room = record { answer = record { verdict = Refused why; length = 
 abbrev pub lentRoom : ℕ → List ℕ
 lentRoom count = replicate count 0xEE
 
-abbrev pub askedWrites : List Asked
+abbrev pub askedWrites : List AskedWrite
 askedWrites =
     record {
       parcel = GetWeight;
-      room = lentRoom 10;
-      left = record { answer = record { verdict = Good; length = 8 }; room = 0xF8 ∷ 0x55 ∷ 0xCE ∷ 0x01 ∷ 0x00 ∷ 0xA0 ∷ 0xA0 ∷ 0x00 ∷ 0xEE ∷ 0xEE ∷ [] };
+      room = 1 ∷ 2 ∷ 3 ∷ 4 ∷ 5 ∷ 6 ∷ 7 ∷ 8 ∷ 9 ∷ 10 ∷ [];
+      left = record { answer = record { verdict = Good; length = 8 }; room = 0xF8 ∷ 0x55 ∷ 0xCE ∷ 0x01 ∷ 0x00 ∷ 0xA0 ∷ 0xA0 ∷ 0x00 ∷ 9 ∷ 10 ∷ [] };
     }
     ∷ record {
       parcel = GetWeight;
@@ -137,7 +138,7 @@ askedWrites =
     ∷ []
 
 abbrev pub WrittenAtTheEdges : Type 0
-WrittenAtTheEdges = map (λ (asked : Asked). writtenParcel (asked .parcel) (asked .room)) askedWrites ≡ map (λ (asked : Asked). asked .left) askedWrites
+WrittenAtTheEdges = map (λ (asked : AskedWrite). writtenParcel (asked .parcel) (asked .room)) askedWrites ≡ map (λ (asked : AskedWrite). asked .left) askedWrites
 
 -- ---- values, in tenths of a milligram
 
@@ -180,7 +181,7 @@ pub record HeaderInsideABody : Type 0 where
   pub file : readParcel messageInFile ≡ read-as.Refused CodeUnknown
   pub file-late : readParcel (drop 13 messageInFile) ≡ read-as.Parcel GetWeight 8
 
--- ---- the check: "no zero bytes fed", so that a receiver compares; feeding the check through does not give 0
+-- ---- the check: "no zero bytes fed", so that a receiver compares: A0 with its check behind it feeds to 15EAh and not to 0
 
 abbrev pub CheckFedThrough : Type 0
 CheckFedThrough = parcelCheck (0xA0 ∷ 0xA0 ∷ 0x00 ∷ []) ≡ 0x15EA
@@ -188,3 +189,12 @@ CheckFedThrough = parcelCheck (0xA0 ∷ 0xA0 ∷ 0x00 ∷ []) ≡ 0x15EA
 -- 12 to 19 are no refusal's number
 abbrev pub NobodysNumbers : Type 0
 NobodysNumbers = map namedOf (12 ∷ 13 ∷ 14 ∷ 15 ∷ 16 ∷ 17 ∷ 18 ∷ 19 ∷ []) ≡ replicate 8 named-as.Unknown
+
+-- ---- "a signed 32-bit" number: what the laws ask of a message's types holds of every message up to the last number, and of none beyond
+
+pub record OfTheirTypes : Type 0 where
+  pub lowest : OfItsTypes (SetTare (negsuc 2147483647)) × OfItsTypes (AckWeight (weighed (negsuc 2147483647) 0 0))
+  pub highest : OfItsTypes (SetTare (pos 2147483647)) × OfItsTypes (AckWeight (weighed (pos 2147483647) 0 0))
+  pub others : OfItsTypes GetWeight × (OfItsTypes GetDeviceId × (OfItsTypes AckCommand × (OfItsTypes (AckDeviceId 0xFFFF_FFFF) × OfItsTypes Nack)))
+  pub beyond : OfItsTypes (SetTare (pos 2147483648)) → ⊥
+  pub below : OfItsTypes (AckWeight (weighed (negsuc 2147483648) 0 0)) → ⊥

@@ -1,4 +1,4 @@
-// Numbers of more than one byte, low byte first, as serials, times and counts stand in messages and records.
+// Numbers of more than one byte, low byte first, as serials, times and counts stand in messages and records; and words as signed numbers.
 ghost use mathlib.Core.Path.{_≡_};
 ghost use mathlib.Core.List.{[], _∷_};
 ghost use Prim.Native.Nat.{_+_, _*_, _<_};

@@ -8,7 +8,7 @@ pub struct ParcelWeight {
 }
 
 // A message, from us or from a scale. A tare is in grams. 003 says of a tare of 0 that the scale takes the weight that stands on it as tare:
-// it does not clear the tare. Only the answer 10 has a weight. No other answer has a field that could pass for one.
+// it does not clear the tare. Only the answer 10 has a weight: 12 and F0 have no field at all, and a serial is no weight.
 pub enum Parcel {
     GetWeight, // A0, CMD_GET_WEIGHT
     SetTare(i32), // A3, CMD_SET_TARE

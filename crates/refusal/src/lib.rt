@@ -55,7 +55,7 @@ pub fn number(refusal: Refusal) -> u8
     }
 }
 
-// Whether a line can meet the refusal with this number. The other refusals are of writing and of a log.
+// Whether a line can meet the refusal with this number. The other refusals are of writing, of a log and of the parcel scales.
 pub fn line_status(number: u8) -> bool
     ensures { λ r. ⌜ r ≡ lineStatus number ⌝ }
 {
