@@ -1,5 +1,5 @@
 """What the works are measured on, a megabyte each: wires for the reader and the listing, bodies for the messages, records for the log,
-parcel messages."""
+parcel messages, logs for the table."""
 
 SIZE = 1_000_000
 
@@ -102,3 +102,11 @@ MIXED_PARCELS = [
 ]
 
 PARCELS = {"parcel weights": filled(PARCEL_WEIGHT), "mixed parcels": filled(b"".join(MIXED_PARCELS))}
+
+# a record every 20 or 21 minutes: gross, minus, net, unsettled, overloaded, and refusals met on the line
+LOGGED = ["01010000001060840103", "01010000009150020003", "02006513015080420002", "01010000000160840103", "01010000001960840103", "03000000000400000000"]
+
+LOGS = {
+    "log of gross weights": b"".join(record_of(1_200 * count, LOGGED[0]) for count in range(SIZE // 20)),
+    "mixed log": b"".join(record_of(1_260 * count, LOGGED[count % len(LOGGED)]) for count in range(SIZE // 20)),
+}

@@ -59,12 +59,16 @@ enum {
     QUAY_RECORD_BROKEN = 11,  /* a record that breaks a rule */
     QUAY_HEADER_WRONG = 20,   /* a parcel scale's message does not start with F8 55 CE, or has under 3 bytes */
     QUAY_BYTES_MISSING = 21,  /* fewer bytes than the length and the check of such a message need */
-    QUAY_PARCEL_CHECK_WRONG = 22 /* the check of such a message is wrong */
+    QUAY_PARCEL_CHECK_WRONG = 22, /* the check of such a message is wrong */
+    QUAY_COUNT_FULL = 23,     /* a count of the weekday and hour table would pass 65,535 */
+    QUAY_SUM_BEYOND = 31      /* a lent cell of that table: its sum, sign aside, is beyond its count times 9,999,990,000,000 */
 };
 
 /* 20, 21 and 22 are earned by the messages of the parcel scales at the foot desk (document 003). The Rattle library reads and writes them
  * (`parcel_scale`). libquay.a has nothing of them yet, so that no function of this header answers these three. Of the tare (A3, in grams, with its sign) 003 says: a tare of 0 takes
- * the weight that stands on the scale as tare. It does not clear the tare. */
+ * the weight that stands on the scale as tare. It does not clear the tare.
+ *
+ * 23 and 31 are earned by the weekday and hour table, which the Rattle library fills (`hour_table`). No function of this header answers these two either. */
 
 /* ---- numbers of the fields */
 

@@ -1,6 +1,6 @@
 """Refusals: the numbers of the rules paper's list and of the requests behind it, and the exception that carries one.
 
-20 to 22 are of the parcel scales, whose messages this module does not hand over yet.
+20 to 22 are of the parcel scales, 23 and 31 of the weekday and hour table. This module hands over neither yet.
 """
 from __future__ import annotations
 
@@ -21,6 +21,8 @@ MEANINGS: Dict[int, str] = {
     20: "header of a parcel scale's message wrong, or under 3 bytes",
     21: "fewer bytes than length and check of a parcel scale's message need",
     22: "check of a parcel scale's message wrong",
+    23: 'a count of the weekday and hour table would pass 65,535',
+    31: 'sum of a lent cell, sign aside, beyond its count times 9,999,990,000,000',
 }
 
 

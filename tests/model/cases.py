@@ -11,15 +11,17 @@ import cases_listing
 import cases_log
 import cases_message
 import cases_parcel
+import cases_table
 import cases_walker
 import cases_weight
+import hour_table
 import line
 
 PARTS = (
     ('frame', cases_frame.cases), ('line', cases_line.cases), ('weight', cases_weight.cases),
     ('message', cases_message.cases), ('log', cases_log.cases),
     ('listing', cases_listing.cases), ('wires', cases_line.wires), ('walker', cases_walker.cases),
-    ('parcel', cases_parcel.cases))
+    ('parcel', cases_parcel.cases), ('table', cases_table.cases))
 
 
 def all_cases():
@@ -43,6 +45,8 @@ def words_of(thing):
         return state_words(thing)
     if isinstance(thing, line.Event):
         return event_words(thing)
+    if isinstance(thing, hour_table.Table):
+        return table_words(thing)
     return [word for part in thing for word in words_of(part)]
 
 
@@ -59,6 +63,12 @@ def event_words(event):
     if event.number:
         return words_of(('refused', event.number, event.wire, event.count))
     return words_of(('frame', event.wire, event.count, event.body))
+
+
+def table_words(table):
+    """How many cells are not empty, and each of these: weekday, hour, its numbers."""
+    told = hour_table.cells_told(table)
+    return words_of((len(told), told))
 
 
 def line_of(case):

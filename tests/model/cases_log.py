@@ -36,7 +36,7 @@ def field_changes():
             yield base._replace(address=address)
         for serial in (0, 1, 255, 256, 0xFFFFFE, 0xFFFFFF, 0x010203):
             yield base._replace(serial=serial)
-        for status in (0, 1, 2, 3, 4, 5, 6, 7, 8, 9, 10, 11, 20, 21, 22, 24, 27, 0x40, 0x91, 128, 255):
+        for status in (*range(12), 20, 21, 22, 23, 24, 27, 31, 0x40, 0x91, 128, 255):
             yield base._replace(status=status)
         for byte in (0x00, 0x09, 0x0A, 0x90, 0x99, 0x9A, 0xA0, 0xFF):
             for place in range(3):

@@ -4,13 +4,14 @@
     python3 tests/model/make.py --check        says whether the committed ones are stale (exit 1)
     python3 tests/model/make.py --differ FILE  says which cases a run's output answers otherwise (exit 1)
     python3 tests/model/make.py --differ parcel_vectors FILE   the same of that program; else it is vectors
+    python3 tests/model/make.py --differ table_vectors FILE    the same of that one
     python3 tests/model/make.py --text         writes the cases as text to tests/model/out, to be read
 
-The committed files are what `crates/vectors` and `crates/parcel_vectors` read
-and must write, and a mixed capture with its listing, which `crates/list_capture`
-reads and must write; and the small wires of samples/ with theirs. The mixed
-capture is listed as family 002, each small wire as its own. As text there is a
-file per part of the model with one case a line.
+The committed files are what `crates/vectors`, `crates/parcel_vectors` and
+`crates/table_vectors` read and must write, and a mixed capture with its listing,
+which `crates/list_capture` reads and must write; and the small wires of samples/
+with theirs. The mixed capture is listed as family 002, each small wire as its own.
+As text there is a file per part of the model with one case a line.
 """
 
 import collections
@@ -22,6 +23,7 @@ import cases
 import listing
 import parcel_vectors
 import sample
+import table_vectors
 import vectors
 
 HERE = os.path.dirname(os.path.abspath(__file__))
@@ -30,7 +32,8 @@ ROOT = os.path.join(HERE, '..', '..')
 CAPTURE_SEED = 2024
 CAPTURE_SIZE = 200_000
 SHOWN = 10  # cases that a difference shows whole
-PROGRAMS = {'vectors': vectors.vectors, 'parcel_vectors': parcel_vectors.vectors}  # what runs cases
+PROGRAMS = {'vectors': vectors.vectors, 'parcel_vectors': parcel_vectors.vectors,
+            'table_vectors': table_vectors.vectors}  # what runs cases
 NOT_NAMED = 'vectors'  # whose cases a difference is asked of if no program is named
 
 

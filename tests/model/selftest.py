@@ -1,4 +1,4 @@
-"""The model tests itself: E1 to E8, the paper's listing, the open points, 02 requests 1, 2, 4 and 5.
+"""The model tests itself: E1 to E8, the paper's listing, the open points, 02 requests 1, 2, 4, 5 and 6.
 
     python3 tests/model/selftest.py
 
@@ -21,6 +21,8 @@ import points_of_lines
 import points_of_messages
 import points_of_parcel_cases
 import points_of_parcels
+import points_of_table_cases
+import points_of_tables
 import points_of_walks
 import points_of_weights
 from check_byte import check_of, register_of
@@ -152,7 +154,7 @@ TESTS = (test_judged_examples, test_longest_body, test_paper_listing, test_misre
          test_frames_handed_back, test_blocks, test_random_source) \
     + points_of_lines.TESTS + points_of_messages.TESTS + points_of_weights.TESTS \
     + points_of_addresses.TESTS + points_of_walks.TESTS + points_of_families.TESTS + points_of_cases.TESTS \
-    + points_of_parcels.TESTS + points_of_parcel_cases.TESTS
+    + points_of_parcels.TESTS + points_of_parcel_cases.TESTS + points_of_tables.TESTS + points_of_table_cases.TESTS
 
 
 def main():

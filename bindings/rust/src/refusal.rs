@@ -34,9 +34,13 @@ pub enum Refusal {
     BytesMissing = 21,
     /// 22: the check of such a message is wrong.
     ParcelCheckWrong = 22,
+    /// 23: a count of the weekday and hour table would pass 65,535. Nothing of this crate answers 23 or 31 yet.
+    CountFull = 23,
+    /// 31: a lent cell of that table has a sum that is, sign aside, beyond its count times 9,999,990,000,000.
+    SumBeyond = 31,
 }
 
-const IN_ORDER: [Refusal; 14] = [
+const IN_ORDER: [Refusal; 16] = [
     Refusal::BodyShort,
     Refusal::BodyLong,
     Refusal::HeldBroken,
@@ -51,6 +55,8 @@ const IN_ORDER: [Refusal; 14] = [
     Refusal::HeaderWrong,
     Refusal::BytesMissing,
     Refusal::ParcelCheckWrong,
+    Refusal::CountFull,
+    Refusal::SumBeyond,
 ];
 
 impl Refusal {
@@ -91,6 +97,8 @@ impl Refusal {
             Refusal::HeaderWrong => "the header of the parcel message is wrong",
             Refusal::BytesMissing => "bytes of the parcel message are missing",
             Refusal::ParcelCheckWrong => "the check of the parcel message is wrong",
+            Refusal::CountFull => "a count of the table would pass 65,535",
+            Refusal::SumBeyond => "the sum of a cell is beyond what its count allows",
         }
     }
 }

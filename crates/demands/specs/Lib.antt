@@ -5,9 +5,11 @@ pub mod Examples
 pub mod Families
 pub mod HighAddresses
 pub mod Kept
+pub mod LentTables
 pub mod Logs
 pub mod LogsFromBefore
 pub mod Loops
+pub mod Means
 pub mod Messages
 pub mod Noted
 pub mod OlderBridges
@@ -17,6 +19,8 @@ pub mod ParcelsShown
 pub mod Reading
 pub mod Shown
 pub mod Stops
+pub mod Tables
+pub mod TablesShown
 pub mod Unheard
 pub mod WalkersWalk
 pub mod WalksShown

@@ -50,25 +50,25 @@ negative-fits : (w : Width) (k : ℕ) → k ≤ 2 ^ hbits w → SFits w (negℤ 
 negative-fits w zero h = record { sfits = pow-pos (hbits w) }
 negative-fits w (suc k) h = record { sfits = h }
 
-module _ (k : ℕ) (h : k < 2 ^ 31) where
-  negated : pos 0 -ℤ toZ w32 k ≡ negℤ (pos k)
-  negated = ap (λ (z : ℤ). pos 0 -ℤ z) (toZ-pos w32 k h) ∙ +ℤ-idl (negℤ (pos k))
+module _ (w : Width) (k : ℕ) (h : k < 2 ^ hbits w) where
+  pub negated : pos 0 -ℤ toZ w k ≡ negℤ (pos k)
+  negated = ap (λ (z : ℤ). pos 0 -ℤ z) (toZ-pos w k h) ∙ +ℤ-idl (negℤ (pos k))
 
-  pub negated-fits : SFits w32 (pos 0 -ℤ toZ w32 k)
-  negated-fits = rw negated (negative-fits w32 k (omega arith))
+  pub negated-fits : SFits w (pos 0 -ℤ toZ w k)
+  negated-fits = rw negated (negative-fits w k (le-of-lt h))
 
   one-less-than : (k : ℕ) → negℤ (pos k) -ℤ pos 1 ≡ negsuc k
   one-less-than zero = -ℤ-one (negℤ (pos 0))
   one-less-than (suc k) = -ℤ-one (negℤ (pos (suc k)))
 
-  one-less : toZ w32 (ofZ w32 (pos 0 -ℤ toZ w32 k)) -ℤ pos 1 ≡ negsuc k
-  one-less = ap (λ (z : ℤ). z -ℤ pos 1) (toZ-ofZ w32 _ negated-fits ∙ negated) ∙ one-less-than k
+  one-less : toZ w (ofZ w (pos 0 -ℤ toZ w k)) -ℤ pos 1 ≡ negsuc k
+  one-less = ap (λ (z : ℤ). z -ℤ pos 1) (toZ-ofZ w _ negated-fits ∙ negated) ∙ one-less-than k
 
-  pub one-less-fits : SFits w32 (toZ w32 (ofZ w32 (pos 0 -ℤ toZ w32 k)) -ℤ pos 1)
+  pub one-less-fits : SFits w (toZ w (ofZ w (pos 0 -ℤ toZ w k)) -ℤ pos 1)
   one-less-fits = rw one-less (record { sfits = h })
 
-  pub one-less-told : toZ w32 (ofZ w32 (toZ w32 (ofZ w32 (pos 0 -ℤ toZ w32 k)) -ℤ pos 1)) ≡ negsuc k
-  one-less-told = toZ-ofZ w32 _ one-less-fits ∙ one-less
+  pub one-less-told : toZ w (ofZ w (toZ w (ofZ w (pos 0 -ℤ toZ w k)) -ℤ pos 1)) ≡ negsuc k
+  one-less-told = toZ-ofZ w _ one-less-fits ∙ one-less
 
 -- ---- `word_of`, as the machine holds its argument, and the same of any width
 

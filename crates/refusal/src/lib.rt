@@ -19,6 +19,8 @@ pub enum Refusal {
     HeaderWrong, // 20: header of a parcel scale's message wrong, or under 3 bytes
     BytesMissing, // 21: fewer bytes than length and check of such a message need
     ParcelCheckWrong, // 22: its check wrong
+    CountFull, // 23: a count of the weekday and hour table would pass 65,535
+    SumBeyond, // 31: a lent cell's sum, sign aside, is beyond its count times 9,999,990,000,000
 }
 
 // What a judge says of what it was given.
@@ -52,10 +54,12 @@ pub fn number(refusal: Refusal) -> u8
         Refusal::HeaderWrong => 20,
         Refusal::BytesMissing => 21,
         Refusal::ParcelCheckWrong => 22,
+        Refusal::CountFull => 23,
+        Refusal::SumBeyond => 31,
     }
 }
 
-// Whether a line can meet the refusal with this number. The other refusals are of writing, of a log and of the parcel scales.
+// Whether a line can meet the refusal with this number. The other refusals are of writing, of a log, of the parcel scales and of a table.
 pub fn line_status(number: u8) -> bool
     ensures { λ r. ⌜ r ≡ lineStatus number ⌝ }
 {
@@ -81,6 +85,8 @@ pub fn of_number(number: u8) -> Named
         20 => Named::Refusal(Refusal::HeaderWrong),
         21 => Named::Refusal(Refusal::BytesMissing),
         22 => Named::Refusal(Refusal::ParcelCheckWrong),
+        23 => Named::Refusal(Refusal::CountFull),
+        31 => Named::Refusal(Refusal::SumBeyond),
         _ => Named::Unknown,
     }
 }

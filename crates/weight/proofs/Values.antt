@@ -40,7 +40,7 @@ abs-subℕ a b = by-order (ltb a b) refl
     by-order true e = omega (arith, ltb-true a b e)
     by-order false e = omega (arith, ltb-false a b e)
 
-abs-less : (a b : ℤ) → natAbs (a -ℤ b) ≤ natAbs a + natAbs b
+pub abs-less : (a b : ℤ) → natAbs (a -ℤ b) ≤ natAbs a + natAbs b
 abs-less (pos a) (pos zero) = omega arith
 abs-less (pos a) (pos (suc b)) = abs-subℕ a (suc b)
 abs-less (pos a) (negsuc b) = omega arith

@@ -3,6 +3,7 @@
 use Prim.Native.Nat.{suc, _-_}
 use mathlib.Core.Path.{_≡_, _∙_, sym}
 use native.Mathlib.Omega.{arith}
+use mir.Syntax.{w32}
 use borrow.Author.Needs.{needs}
 use borrow.Author.Tests.{le-ltb}
 use Rattle.low_first.specs.Signed.{signedOf}
@@ -23,10 +24,10 @@ cast-below : tie.Need-cast-below
 cast-below c = search needs
 
 sub-result : tie.Need-sub-result
-sub-result c = negated-fits (0xFFFF_FFFF - c .before .args .word) (omega arith)
+sub-result c = negated-fits w32 (0xFFFF_FFFF - c .before .args .word) (omega arith)
 
 sub-result-2 : tie.Need-sub-result-2
-sub-result-2 c = one-less-fits (0xFFFF_FFFF - c .before .args .word) (omega arith)
+sub-result-2 c = one-less-fits w32 (0xFFFF_FFFF - c .before .args .word) (omega arith)
 
 returns-2 : tie.Need-returns-2
 unfolding signedOf
@@ -34,7 +35,7 @@ returns-2 c =
     let word = c .before .args .word in
     let small = c .before .fits .word .fits in
     let one-less : 0x1_0000_0000 - word ≡ suc (0xFFFF_FFFF - word) = omega arith in
-    one-less-told (0xFFFF_FFFF - word) (omega arith) ∙ rw (le-ltb word 0x8000_0000 (c .if1 .left), one-less)
+    one-less-told w32 (0xFFFF_FFFF - word) (omega arith) ∙ rw (le-ltb word 0x8000_0000 (c .if1 .left), one-less)
 
 pub signed-spec : {M : Type 1} → statement M
 signed-spec = tie.close (tie.spec cast-result returns sub-below cast-below sub-result sub-result-2 returns-2)

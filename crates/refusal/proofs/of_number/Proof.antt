@@ -63,9 +63,17 @@ returns-14 c = rw (c .match .keys14)
 
 returns-15 : tie.Need-returns-15
 unfolding namedOf namedIn
-returns-15 c =
+returns-15 c = rw (c .match .keys15)
+
+returns-16 : tie.Need-returns-16
+unfolding namedOf namedIn
+returns-16 c = rw (c .match .keys16)
+
+returns-17 : tie.Need-returns-17
+unfolding namedOf namedIn
+returns-17 c =
     let others = c .match .rest in
-    rw (ne-eqb _ _ (others .0 .0 .0 .0 .0 .0 .0 .0 .0 .0 .0 .0 .0 .1), ne-eqb _ _ (others .0 .0 .0 .0 .0 .0 .0 .0 .0 .0 .0 .0 .1), ne-eqb _ _ (others .0 .0 .0 .0 .0 .0 .0 .0 .0 .0 .0 .1), ne-eqb _ _ (others .0 .0 .0 .0 .0 .0 .0 .0 .0 .0 .1), ne-eqb _ _ (others .0 .0 .0 .0 .0 .0 .0 .0 .0 .1), ne-eqb _ _ (others .0 .0 .0 .0 .0 .0 .0 .0 .1), ne-eqb _ _ (others .0 .0 .0 .0 .0 .0 .0 .1), ne-eqb _ _ (others .0 .0 .0 .0 .0 .0 .1), ne-eqb _ _ (others .0 .0 .0 .0 .0 .1), ne-eqb _ _ (others .0 .0 .0 .0 .1), ne-eqb _ _ (others .0 .0 .0 .1), ne-eqb _ _ (others .0 .0 .1), ne-eqb _ _ (others .0 .1), ne-eqb _ _ (others .1))
+    rw (ne-eqb _ _ (others .0 .0 .0 .0 .0 .0 .0 .0 .0 .0 .0 .0 .0 .0 .0 .1), ne-eqb _ _ (others .0 .0 .0 .0 .0 .0 .0 .0 .0 .0 .0 .0 .0 .0 .1), ne-eqb _ _ (others .0 .0 .0 .0 .0 .0 .0 .0 .0 .0 .0 .0 .0 .1), ne-eqb _ _ (others .0 .0 .0 .0 .0 .0 .0 .0 .0 .0 .0 .0 .1), ne-eqb _ _ (others .0 .0 .0 .0 .0 .0 .0 .0 .0 .0 .0 .1), ne-eqb _ _ (others .0 .0 .0 .0 .0 .0 .0 .0 .0 .0 .1), ne-eqb _ _ (others .0 .0 .0 .0 .0 .0 .0 .0 .0 .1), ne-eqb _ _ (others .0 .0 .0 .0 .0 .0 .0 .0 .1), ne-eqb _ _ (others .0 .0 .0 .0 .0 .0 .0 .1), ne-eqb _ _ (others .0 .0 .0 .0 .0 .0 .1), ne-eqb _ _ (others .0 .0 .0 .0 .0 .1), ne-eqb _ _ (others .0 .0 .0 .0 .1), ne-eqb _ _ (others .0 .0 .0 .1), ne-eqb _ _ (others .0 .0 .1), ne-eqb _ _ (others .0 .1), ne-eqb _ _ (others .1))
 
 pub of-number-spec : {M : Type 1} → statement M
 of-number-spec =
@@ -85,4 +93,6 @@ of-number-spec =
     returns-12
     returns-13
     returns-14
-    returns-15)
+    returns-15
+    returns-16
+    returns-17)

@@ -1,0 +1,5 @@
+pub mod Greatest
+pub mod Lowest
+pub mod OneAnswer
+pub mod Parts
+pub mod Signs
