@@ -1,13 +1,7 @@
 /* The messages of the parcel scales in plain C, with the check by a table of 256: the yardstick of "parcel". */
+#include "numbers.h"
 #include <stddef.h>
 #include <stdint.h>
-
-/* a number, low byte first */
-static uint64_t low_first(const unsigned char *bytes, unsigned length) {
-    uint64_t number = 0;
-    for (unsigned at = 0; at < length; at++) number |= (uint64_t)bytes[at] << 8 * at;
-    return number;
-}
 
 enum parcel_code {
     GET_WEIGHT = 0xA0, SET_TARE = 0xA3, GET_DEVICE_ID = 0x90, ACK_WEIGHT = 0x10, ACK_COMMAND = 0x12, ACK_DEVICE_ID = 0x50, NACK = 0xF0

@@ -1,9 +1,10 @@
 /* The four states of listening in plain C, with the check by a table of 256: what the yardsticks beside it share. */
+#include "addresses.h"
 #include <stddef.h>
 #include <stdint.h>
 
 enum { SEEKING, DELIMITED, INSIDE, HELD };
-enum { LONGEST_BODY = 255, HIGHEST_SHORT = 0xFD, QUIET = -1 };
+enum { LONGEST_BODY = 255, QUIET = -1 };
 
 /* The body just heard stands at the front of `body` until the next byte. */
 struct reader {

@@ -3,6 +3,7 @@
 from addresses import HIGH
 from cases_log import family_changes
 import cases_table_fill
+import cases_table_grow
 import cases_table_mean
 import families
 from hour_table import EMPTY, EMPTY_TABLE, Cell, add, cell_is_sound, enter, slot_of
@@ -171,3 +172,4 @@ def cases():
         yield from group(source)
     yield from cases_table_fill.cases(source)
     yield from cases_table_mean.cases(source)
+    yield from cases_table_grow.cases(source)

@@ -14,7 +14,7 @@ from collections import namedtuple
 
 import log
 import weight
-from refusals import ACCEPTED, COUNT_FULL, RECORD_WRONG, SUM_TOO_FAR, refused
+from refusals import ACCEPTED, COUNT_FULL, FIELD_WRONG, RECORD_WRONG, SUM_TOO_FAR, refused
 
 WEEKDAYS = 7
 HOURS = 24
@@ -26,6 +26,7 @@ HEAVIEST = 9_999_990_000_000  # "The largest is 9,999,990,000,000", of the value
 Cell = namedtuple('Cell', 'weights refused sum')
 Table = namedtuple('Table', 'rows')
 EMPTY = Cell(0, 0, 0)
+ONE_REFUSED = Cell(0, 1, 0)
 EMPTY_TABLE = Table(((EMPTY,) * HOURS,) * WEEKDAYS)
 
 
@@ -67,15 +68,19 @@ def table_is_sound(table):
     return all(cell_is_sound(cell) for row in table.rows for cell in row)
 
 
+def one_weight(value):
+    return Cell(1, 0, value)
+
+
 def share_of(record):
     """What a good record brings to its cell: one settled gross weight without
     overload and its value; or one refused record, whatever its status (open point
     8.5); or nothing."""
     if record.kind == log.KIND_REFUSED:
-        return Cell(0, 1, 0)
+        return ONE_REFUSED
     _, reading = log.weight_noted(record)
     if record.kind == log.KIND_GROSS and reading.settled and not reading.overload:
-        return Cell(1, 0, weight.value(reading)[1])
+        return one_weight(weight.value(reading)[1])
     return EMPTY
 
 
@@ -85,28 +90,47 @@ def passes(count, more):
     return more > 0 and count + more > HIGHEST_COUNT
 
 
-def grown(cell, record):
-    """A sound cell with a good record in it: (0, cell) or (23,)."""
-    share = share_of(record)
+def grown(cell, share):
+    """A sound cell and what one record brings to it: (0, cell) or (23,)."""
     if passes(cell.weights, share.weights) or passes(cell.refused, share.refused):
         return refused(COUNT_FULL)
     return (ACCEPTED, Cell(cell.weights + share.weights, cell.refused + share.refused, cell.sum + share.sum))
 
 
+def add_weight(value, cell):
+    """One weight more in a lent cell, by its value in tenths of a milligram: (0, cell)
+    or (number,). The order is 31, 8, 23: 8 is for a value that no weight has, "The
+    largest is 9,999,990,000,000"."""
+    if not cell_is_sound(cell):
+        return refused(SUM_TOO_FAR)
+    if abs(value) > HEAVIEST:
+        return refused(FIELD_WRONG)
+    return grown(cell, one_weight(value))
+
+
+def add_refused(cell):
+    """One refused record more in a lent cell: (0, cell) or (number,). The order is
+    31, 23."""
+    if not cell_is_sound(cell):
+        return refused(SUM_TOO_FAR)
+    return grown(cell, ONE_REFUSED)
+
+
 def add(record, cell):
     """One record into the cell that is lent as its own: (0, cell) or (number,).
-    The order is 31, 11, 23."""
+    The order is 31, 11, 23. The library has this in parts, `hour_cell::counts_as`
+    and then `add_weight` or `add_refused`."""
     if not cell_is_sound(cell):
         return refused(SUM_TOO_FAR)
     if log.judge_record(record) != ACCEPTED:
         return refused(RECORD_WRONG)
-    return grown(cell, record)
+    return grown(cell, share_of(record))
 
 
 def table_grown(table, record):
     """A sound table with a good record in it: (0, table), or (23, the same table)."""
     slot = slot_of(record.time)
-    number, *cell = grown(cell_at(table, slot), record)
+    number, *cell = grown(cell_at(table, slot), share_of(record))
     return (number, replaced(table, slot, *cell)) if number == ACCEPTED else (number, table)
 
 

@@ -85,7 +85,8 @@ def first_records(function):
 def test_every_answer(expect):
     """Every refusal of each function, each often; and how many records went in."""
     for function, numbers in (('add_to_cell', [0, 11, 23, 31]), ('enter_table', [0, 11, 23, 31]),
-                              ('fill_table', [0, 10, 11, 23, 31]), ('mean_of', [0, 31]), ('cell_is_sound', [0, 1])):
+                              ('fill_table', [0, 10, 11, 23, 31]), ('mean_of', [0, 31]), ('cell_is_sound', [0, 1]),
+                              ('add_weight', [0, 8, 23, 31]), ('add_refused', [0, 23, 31])):
         given = [answer[0] for answer in cases_of(function).values()]
         expect('answers of ' + function, sorted(set(given)), numbers)
         expect('answers of ' + function, [number for number in numbers if given.count(number) < 30], [])
@@ -235,6 +236,50 @@ def test_sums(expect):
                 expect('heaviest of ' + function, wanted - met, set())
 
 
+VALUES = (0, 1, -1, HEAVIEST, -HEAVIEST, HEAVIEST - 1, 1 - HEAVIEST, HEAVIEST + 1, -HEAVIEST - 1, 2 ** 62,
+          2 ** 63 - 1, -2 ** 63)
+COUNTS = (0, 1, 2, 65_533, 65_534, 65_535)
+
+
+def test_weights_added(expect):
+    """Every value of interest with every count and every sum at its ends; each refusal
+    alone, each two faults at once, and all three."""
+    met = {(value, cell.weights, cell.sum) for value, cell in cases_of('add_weight')}
+    for count in COUNTS:
+        wanted = product(VALUES, (count,), edge_sums(count) | {0, 2 ** 63 - 1, -2 ** 63})
+        expect('weights added', set(wanted) - met, set())
+    faults = {}
+    for (value, cell), (number, *after) in cases_of('add_weight').items():
+        several = (31,) * unsound(cell) + (8,) * (abs(value) > HEAVIEST) + (23,) * (cell.weights == 65_535)
+        expect('order of add_weight', number, several[0] if several else 0)
+        expect('weight added', after, [] if number else [(cell.weights + 1, cell.refused, cell.sum + value)])
+        faults[several] = faults.get(several, 0) + 1
+    expect('faults of add_weight', set(faults), {(), (31,), (8,), (23,), (31, 8), (31, 23), (8, 23), (31, 8, 23)})
+    expect('faults of add_weight', [several for several, count in faults.items() if count < 20], [])
+    refused = {(cell.refused, number) for (_, cell), (number, *_) in cases_of('add_weight').items()}
+    expect('refused beside', set(product((0, 1, 65_533, 65_534, 65_535), (0, 8, 23))) - refused, set())
+    lengths = {abs(value).bit_length() for value, _ in cases_of('add_weight')}
+    expect('sizes of values', set(range(65)) - lengths, set())
+
+
+def test_refused_added(expect):
+    """Each count of refused with each of weights, at both ends of the sum and beyond;
+    each refusal alone and both at once."""
+    met = {(cell.weights, cell.refused) for cell, in cases_of('add_refused')}
+    expect('refused added', set(product(COUNTS, COUNTS)) - met, set())
+    sums = {(cell.weights, cell.sum) for cell, in cases_of('add_refused')}
+    for count in COUNTS:
+        wanted = {(count, total) for total in edge_sums(count) | {0, 2 ** 63 - 1, -2 ** 63}}
+        expect('sums of add_refused', wanted - sums, set())
+    faults = set()
+    for (cell,), (number, *after) in cases_of('add_refused').items():
+        several = (31,) * unsound(cell) + (23,) * (cell.refused == 65_535)
+        expect('order of add_refused', number, several[0] if several else 0)
+        expect('refused added', after, [] if number else [(cell.weights, cell.refused + 1, cell.sum)])
+        faults.add((several, cell.weights == 65_535))
+    expect('faults of add_refused', faults, set(product(((), (31,), (23,), (31, 23)), (False, True))))
+
+
 def test_unsound_tables(expect):
     """31 in each of the 168 cells, and not in the record's own; in the first and the
     last with an empty log, and with logs that would be 0, 10, 11 and 23."""
@@ -359,10 +404,18 @@ def test_as_they_are_run(expect):
             (('mean_of', (Cell(6, 0, -4),)), '06 00 00 06 00 00 00 fc ff ff ff ff ff ff ff',
              b'6 0 1 fffffffffffffffe 0000000000000003'),
             (('mean_of', (Cell(0, 1, 0),)), '06 00 00 00 00 01 00 00 00 00 00 00 00 00 00', b'6 0 0'),
-            (('mean_of', (Cell(0, 1, 5),)), '06 00 00 00 00 01 00 05 00 00 00 00 00 00 00', b'6 31')):
+            (('mean_of', (Cell(0, 1, 5),)), '06 00 00 00 00 01 00 05 00 00 00 00 00 00 00', b'6 31'),
+            (('add_weight', (-1, lent)), '07 00 00 ff ff ff ff ff ff ff ff ' + lent_bytes,
+             b'7 0 8 9 ffffff172b5aefff'),
+            (('add_weight', (HEAVIEST, none)),
+             '07 00 00 80 09 da 4d 18 09 00 00 00 00 00 00 00 00 00 00 00 00 00 00', b'7 0 1 0 000009184dda0980'),
+            (('add_weight', (-2 ** 63, Cell(65_535, 0, 0))),
+             '07 00 00 00 00 00 00 00 00 00 80 ff ff 00 00 00 00 00 00 00 00 00 00', b'7 8'),
+            (('add_refused', (lent,)), '08 00 00 ' + lent_bytes, b'8 0 7 10 ffffff172b5af000'),
+            (('add_refused', (Cell(0, 65_535, 1),)), '08 00 00 00 00 ff ff 01 00 00 00 00 00 00 00', b'8 31')):
         expect('as run', run.get(case), (given, answer))
 
 
 TESTS = (test_every_answer, test_times, test_every_sort_of_record, test_broken_records, test_full_counts,
-         test_full_beside, test_sums, test_unsound_tables, test_logs, test_first_refusal, test_filled_further,
-         test_means, test_as_they_are_run)
+         test_full_beside, test_sums, test_weights_added, test_refused_added, test_unsound_tables, test_logs,
+         test_first_refusal, test_filled_further, test_means, test_as_they_are_run)

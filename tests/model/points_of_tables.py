@@ -10,8 +10,8 @@ from math import gcd
 
 from cases_log import record_bytes
 from hour_mean import lowest_terms, mean_of, prime_factors
-from hour_table import (EMPTY, EMPTY_TABLE, HEAVIEST, Cell, add, cell_at, cell_is_sound, cells_told, enter, fill,
-                        replaced, slot_of)
+from hour_table import (EMPTY, EMPTY_TABLE, HEAVIEST, Cell, add, add_refused, add_weight, cell_at, cell_is_sound,
+                        cells_told, enter, fill, replaced, slot_of)
 from log import Record, judge_record
 from random_bytes import RandomBytes
 from tables_asked import some_cell, some_good_record, some_slots, some_table
@@ -216,6 +216,51 @@ def test_ends_of_sums(expect):
         expect('ends', add(HEAVY, Cell(65_535, 0, FULL_SUM)), (23,))
 
 
+def test_one_weight_more(expect):
+    """"their signed sum in tenths of a milligram": one weight more, by its value. The
+    order is 31, 8, 23."""
+    for worth, cell, answer in (
+            (251_000_000, (7, 9, 10), (0, (8, 9, 251_000_010))), (-251_000_000, (7, 9, 10), (0, (8, 9, -250_999_990))),
+            (0, (0, 0, 0), (0, (1, 0, 0))), (1, (0, 0, 0), (0, (1, 0, 1))), (-1, (0, 0, 0), (0, (1, 0, -1))),
+            (-1, (1, 0, 1), (0, (2, 0, 0))), (1, (1, 65_535, -1), (0, (2, 65_535, 0))),
+            (9_999_990_000_000, (0, 0, 0), (0, (1, 0, 9_999_990_000_000))),
+            (-9_999_990_000_000, (0, 0, 0), (0, (1, 0, -9_999_990_000_000))),
+            (9_999_989_999_999, (1, 0, 9_999_990_000_000), (0, (2, 0, 19_999_979_999_999))),
+            (9_999_990_000_000, (65_534, 3, FULL_SUM - 9_999_990_000_000), (0, (65_535, 3, FULL_SUM))),
+            (-9_999_990_000_000, (65_534, 3, 9_999_990_000_000 - FULL_SUM), (0, (65_535, 3, -FULL_SUM))),
+            (-9_999_990_000_000, (65_533, 0, 5), (0, (65_534, 0, -9_999_989_999_995))),
+            # 8: a value that no weight has
+            (BEYOND, (0, 0, 0), (8,)), (-BEYOND, (0, 0, 0), (8,)), (BEYOND, (5, 0, -9_999_990_000_000), (8,)),
+            (2 ** 62, (5, 5, 5), (8,)), (2 ** 63 - 1, (5, 5, 5), (8,)), (-2 ** 63, (5, 5, 5), (8,)),
+            (-2 ** 63, (0, 0, 0), (8,)),
+            # 23: one weight too many, also where it is a zero
+            (1, (65_535, 0, 0), (23,)), (0, (65_535, 65_535, FULL_SUM), (23,)), (-1, (65_535, 0, FULL_SUM), (23,)),
+            # 31, also where the sum would be good afterwards
+            (0, (0, 0, 5), (31,)), (-5, (0, 0, 5), (31,)), (0, (1, 0, BEYOND), (31,)), (-1, (1, 0, BEYOND), (31,)),
+            (1, (1, 65_535, -BEYOND), (31,)), (0, (3, 0, -2 ** 63), (31,)), (0, (3, 0, 2 ** 63 - 1), (31,)),
+            # 31 ahead of 8, of 23, of both; 8 ahead of 23
+            (BEYOND, (0, 0, 1), (31,)), (-2 ** 63, (0, 0, 2 ** 63 - 1), (31,)), (1, (65_535, 0, FULL_SUM + 1), (31,)),
+            (-1, (65_535, 0, -FULL_SUM - 1), (31,)), (BEYOND, (65_535, 0, FULL_SUM + 1), (31,)),
+            (BEYOND, (65_535, 0, 0), (8,)), (-2 ** 63, (65_535, 65_535, -FULL_SUM), (8,))):
+        expect('one weight more', add_weight(worth, Cell(*cell)), answer)
+
+
+def test_one_refused_more(expect):
+    """"and the count of refused records": one more, whatever the weights. The order is
+    31, 23."""
+    for cell, answer in (((0, 0, 0), (0, (0, 1, 0))), ((7, 9, -10), (0, (7, 10, -10))), ((0, 1, 0), (0, (0, 2, 0))),
+                         ((1, 65_533, 9_999_990_000_000), (0, (1, 65_534, 9_999_990_000_000))),
+                         ((65_535, 65_534, -FULL_SUM), (0, (65_535, 65_535, -FULL_SUM))),
+                         ((65_535, 0, FULL_SUM), (0, (65_535, 1, FULL_SUM))),
+                         ((0, 65_535, 0), (23,)), ((65_535, 65_535, FULL_SUM), (23,)), ((3, 65_535, -7), (23,)),
+                         ((0, 0, 1), (31,)), ((0, 9, -1), (31,)), ((1, 0, BEYOND), (31,)), ((2, 0, -2 ** 63), (31,)),
+                         ((65_535, 0, FULL_SUM + 1), (31,)), ((65_535, 0, -FULL_SUM - 1), (31,)),
+                         # 31 ahead of 23
+                         ((0, 65_535, 1), (31,)), ((65_535, 65_535, FULL_SUM + 1), (31,)),
+                         ((1, 65_535, 2 ** 63 - 1), (31,))):
+        expect('one refused more', add_refused(Cell(*cell)), answer)
+
+
 def some_records(source):
     """Good records of a few slots, and broken ones now and then."""
     slots = some_slots(source)
@@ -290,6 +335,46 @@ def test_one_by_one(expect):
             expect('two calls', (number, first + second, table), fill(log_of(*records), lent))
 
 
+def test_in_parts(expect):
+    """A record into its cell is one weight more by its value, or one refused record
+    more, or no change; behind 31 and 11."""
+    source = RandomBytes(127)
+    cells = [Cell(65_535, 65_535, -3), Cell(65_535, 0, FULL_SUM), Cell(0, 65_535, 0), Cell(0, 0, 5), EMPTY]
+    cells += [some_cell(source) for _ in range(40)]
+    for cell in cells:
+        records = [*GOOD, *(some_good_record(source, ((0, 0), (3, 3))) for _ in range(20))]
+        for record in records:
+            if counted(record):
+                answer = add_weight(weighed(record), cell)
+            elif record.kind == 3:
+                answer = add_refused(cell)
+            else:
+                answer = (0, cell) if cell_is_sound(cell) else (31,)
+            expect('in parts', add(record, cell), answer)
+        expect('in parts', add(BROKEN, cell), (11,) if cell_is_sound(cell) else (31,))
+
+
+def test_any_order(expect):
+    """Values put in one after another: their number and their sum, and the cell is
+    sound all the while. A refused one is as if it were not there."""
+    source = RandomBytes(131)
+    for _ in range(60):
+        cell, taken, refusals = EMPTY, [], 0
+        for _ in range(source.below(25)):
+            worth = source.choice((1, -1)) * (source.number() % 12_000_000_000_000)
+            number, *after = add_weight(worth, cell)
+            expect('8', number, 8 if worth > 9_999_990_000_000 or worth < -9_999_990_000_000 else 0)
+            if number == 0:
+                cell, = after
+                taken.append(worth)
+            if source.one_in(3):
+                more = cell._replace(refused=cell.refused + 1)
+                expect('one refused more', add_refused(cell), (0, more))
+                cell, refusals = more, refusals + 1
+            expect('sound', cell_is_sound(cell), True)
+        expect('number and sum', cell, (len(taken), refusals, sum(taken)))
+
+
 def test_means(expect):
     """"a fraction in lowest terms with a positive lower number; sum 0 gives 0 over 1; a
     cell with no weights answers "no readings" and never a zero"."""
@@ -351,5 +436,6 @@ def test_values_lent(expect):
 
 
 TESTS = (test_slots, test_calendar, test_sound_cells, test_what_counts, test_same_cell, test_unsound_first,
-         test_full_counts, test_stays_as_before, test_ends_of_sums, test_all_records, test_one_by_one, test_means,
-         test_lowest_terms, test_values_lent)
+         test_full_counts, test_stays_as_before, test_ends_of_sums, test_one_weight_more, test_one_refused_more,
+         test_all_records, test_one_by_one, test_in_parts, test_any_order, test_means, test_lowest_terms,
+         test_values_lent)

@@ -35,6 +35,11 @@ def record_and_cell(entered, held):
     return numbers_alone(record(entered), cell(held))
 
 
+def value_and_cell(value, held):
+    """The value 8 in two's complement, and the cell."""
+    return numbers_alone(form.long(value % LONGS), cell(held))
+
+
 def record_and_table(entered, lent):
     return numbers_alone(record(entered), table(lent))
 
@@ -58,10 +63,13 @@ def mean_told(kind, *fraction):
 TABLE_RUN = {
     'slot_of': [Layout(1, lambda time: numbers_alone(form.long(time)), as_it_is)],
     'cell_is_sound': [Layout(2, lambda held: numbers_alone(cell(held)), as_it_is)],
+    # `hour_cell::counts_as`, then `add_weight` or `add_refused`
     'add_to_cell': [Layout(3, record_and_cell, or_refused(cell_told))],
     'enter_table': [Layout(4, record_and_table, table_told)],
     'fill_table': [Layout(5, lambda log, lent: (log, table(lent)), table_told)],
     'mean_of': [Layout(6, lambda held: numbers_alone(cell(held)), or_refused(mean_told))],
+    'add_weight': [Layout(7, value_and_cell, or_refused(cell_told))],
+    'add_refused': [Layout(8, lambda held: numbers_alone(cell(held)), or_refused(cell_told))],
 }
 
 RUN = ((cases_table.cases, TABLE_RUN),)

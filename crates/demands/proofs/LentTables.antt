@@ -18,22 +18,21 @@ use Rattle.records.specs.Stepping.{Log, wholeLog, bytesOfLog}
 use Rattle.records.proofs.Rules.{read-length}
 use Rattle.records.proofs.Joining.{one-more, none, more, log-back}
 use Rattle.hour_cell.specs.declared.cells.Cell.{Cell}
-use Rattle.hour_cell.specs.Slots.{slotOf}
 use Rattle.hour_cell.specs.Cells.{sound}
-use Rattle.hour_cell.specs.Adding.{added}
+use Rattle.hour_cell.specs.Counting.{countsAs}
 use Rattle.hour_table.specs.declared.filled.Filled.{Filled}
 use Rattle.hour_table.specs.Tables.{Table, soundTable}
 use Rattle.hour_table.specs.Filling.{stays, put, entered, followed, poured, filledFrom}
 use Rattle.hour_mean.specs.declared.Mean.the-variants as mean-as
 use Rattle.hour_mean.specs.Means.{lowest, meanOf}
 use Rattle.demands.specs.Tables.{cellOf, wentIn}
-use Rattle.demands.specs.LentTables.{SevenByTwentyFour, ShapeKept, Holds, FilledFurther, BeyondFirst, AnyCellBeyond, NoCellBeyond, KeptSound, StaysSound, MeansOfSound, Room, Passes, LentGoesInWhole, StopsOnlyFull, FullOnlyThere, CountsNeverPass, NoMoreThanThere, BrokenIsRefused, LogOfOne, RecordByRecord, StaysAsBefore}
+use Rattle.demands.specs.LentTables.{SevenByTwentyFour, ShapeKept, Holds, FilledFurther, BeyondFirst, AnyCellBeyond, NoCellBeyond, KeptSound, StaysSound, MeansOfSound, HeldTogether, NothingLostOfLent, Room, Passes, LentGoesInWhole, StopsOnlyFull, FullOnlyThere, CountsNeverPass, NoMoreThanThere, BrokenIsRefused, LogOfOne, RecordByRecord, StaysAsBefore}
 use Rattle.demands.proofs.TableCells.{empty-seven}
 use Rattle.demands.proofs.TableSound.{cell-sound, empty-is-sound, all-sound, beyond-unsound, not-beyond-sound}
 use Rattle.demands.proofs.TableFilling.{holds-nothing, Poured, pours, put-alone, poured-seven, poured-holds, poured-few, poured-again}
 use Rattle.demands.proofs.TableLogs.{orderly, not-at-end, cut}
 use Rattle.demands.proofs.TableLimits.{poured-sound, poured-stopped, poured-whole, poured-full, poured-room}
-use Rattle.demands.proofs.TableTotals.{HoldTogether, together-nothing, poured-together}
+use Rattle.demands.proofs.TableTotals.{together-nothing, poured-together}
 
 -- ---- a log or a record into a lent table
 
@@ -86,10 +85,10 @@ filled-further log table weekday hour seven =
     (poured-holds (steps (wholeLog log) table) seven weekday hour) (holds-nothing weekday hour (cellOf table weekday hour)))
 
 -- and all cells together
-pub filled-together : (log : List ℕ) (table : Table) → SevenByTwentyFour table → HoldTogether table (wentIn log (filledFrom log table)) (filledFrom log table .table)
-filled-together log table seven =
+pub nothing-lost-of-lent : NothingLostOfLent
+nothing-lost-of-lent log table seven =
     rw (log-lent log table)
-    (by-soundness (wholeLog log) table (λ (filled : Filled). HoldTogether table (wentIn log filled) (filled .table))
+    (by-soundness (wholeLog log) table (λ (filled : Filled). HeldTogether table (wentIn log filled) (filled .table))
     (poured-together (steps (wholeLog log) table) seven) (together-nothing table))
 
 pub no-more-than-there : NoMoreThanThere
@@ -104,7 +103,7 @@ unfolding entered
 beyond-refused table unsound = record { record-refused = λ item. rw unsound; log-refused = λ log. log-lent log table ∙ rw unsound }
 
 pub any-cell-beyond : AnyCellBeyond
-any-cell-beyond table weekday hour seven w h far = by-test (soundTable table) refl
+any-cell-beyond table weekday hour far = by-test (soundTable table) refl
   where
     by-test : (test : Bool) → soundTable table ≡ test → BeyondFirst table
     by-test true s = absurd (beyond-unsound (cellOf table weekday hour) far (cell-sound table (record { weekday = weekday; hour = hour }) s))
@@ -161,8 +160,8 @@ counts-never-pass log table seven room weekday hour w h =
 -- ---- one record, and record by record
 
 pub broken-is-refused : BrokenIsRefused
-unfolding entered put added
-broken-is-refused item table bad s = rw (s, cell-sound table (slotOf (item .time)) s, bad)
+unfolding entered put countsAs
+broken-is-refused item table bad s = rw (s, bad)
 
 log-alone : (item : Record) → good item ≡ true → item .time < 256 ^ 8 → wholeLog (bytesOfRecord item) ≡ alone item
 unfolding bytesOfLog bytesOfRecord lowBytes

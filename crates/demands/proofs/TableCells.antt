@@ -8,7 +8,7 @@ use native.Mathlib.Omega.{arith}
 use borrow.Author.Tests.{eqb-true, eqb-false}
 use lib.Dec.{eqb}
 use lib.ListN.{length, getD, set, replicate, length-set, getD-replicate}
-use lib.Seq.{getD-set-same, getD-set-other}
+use lib.Seq.{getD-set-same, getD-set-other, set-getD}
 use Rattle.hour_cell.specs.declared.cells.Cell.{Cell}
 use Rattle.hour_cell.specs.declared.slots.Slot.{Slot}
 use Rattle.hour_cell.specs.Cells.{emptyCell}
@@ -32,6 +32,10 @@ rows-kept (first ∷ rows) (suc weekday) row all long = (all .0, rows-kept rows 
 pub record There (slot : Slot) : Type 0 where
   pub weekday : slot .weekday < 7
   pub hour : slot .hour < 24
+
+-- a cell replaced by itself
+pub same-cell : (table : Table) (slot : Slot) → withCell table slot (cellAt table slot) ≡ table
+same-cell table slot = rw (set-getD (getD table (slot .weekday) []) (slot .hour) emptyCell) (set-getD table (slot .weekday) [])
 
 module _ (table : Table) (seven : SevenByTwentyFour table) (slot : Slot) (there : There slot) where
   pub row-there : slot .weekday < length table

@@ -1,12 +1,12 @@
 -- Shown: what a good record counts as is what a person says of its fields, and a cell into which it went holds that much more, and stays sound.
 -- Why: a good weighing notes the reading of its own four bytes, whose settled and overload bits and whose value are read from the same bytes.
 use Prim.Native.Nat.{_+_, _≤_}
-use mathlib.Core.Path.{_≡_, refl, sym, subst}
+use mathlib.Core.Path.{_≡_, _∙_, refl, sym, subst}
 use mathlib.Core.Bool.{Bool, true, false, not, cond, _&&_, true≢false, and-eq-true-iff}
 use native.Mathlib.Omega.{arith}
-use borrow.Author.Tests.{eqb-true, ltb-true, ltb-false, le-leb}
-use lib.Dec.{eqb}
-use lib.IntN.{pos, _+ℤ_, +ℤ-idr}
+use borrow.Author.Tests.{eqb-true, ltb-true, ltb-false, le-leb, le-ltb}
+use lib.Dec.{eqb, ltb}
+use lib.IntN.{pos, natAbs, _+ℤ_, +ℤ-idr}
 use Rattle.refusal.specs.declared.Refusal.{Refusal}
 use Rattle.refusal.specs.declared.Refusal.the-variants.{FieldOutside, RecordBroken, CountFull, SumBeyond}
 use Rattle.weight.specs.declared.families.Family.{Family}
@@ -21,16 +21,16 @@ use Rattle.weight.specs.Bytes.{readAs, readNamed, readOf, readable}
 use Rattle.weight.specs.Tenths.{valueOf}
 use Rattle.weight.proofs.RoundTrip.{legal-of-read}
 use Rattle.records.specs.declared.records.Record.{Record}
-use Rattle.records.specs.Records.{wasMet, weightBytes, readingIn, goodAddress, goodWeighing, good}
+use Rattle.records.specs.Records.{weighs, wasMet, weightBytes, readingIn, goodAddress, goodWeighing, good}
 use Rattle.records.specs.Weighings.{weightNoted}
 use Rattle.records.proofs.Unweighed.{weighing-noted}
 use Rattle.hour_cell.specs.declared.cells.Cell.{Cell}
-use Rattle.hour_cell.specs.declared.adding.CountsAs.{CountsAs}
-use Rattle.hour_cell.specs.declared.adding.CountsAs.the-variants.{Weight, Met, Nothing}
+use Rattle.hour_cell.specs.declared.counting.CountsAs.{CountsAs}
+use Rattle.hour_cell.specs.declared.counting.CountsAs.the-variants.{Weight, Met, Nothing, Refused}
 use Rattle.hour_cell.specs.declared.adding.Added.{Added}
 use Rattle.hour_cell.specs.declared.adding.Added.the-variants as added-as
-use Rattle.hour_cell.specs.Cells.{sound, wouldPass, withWeight, withRefused}
-use Rattle.hour_cell.specs.Adding.{byReading, byNoted, countsAs, counted, added}
+use Rattle.hour_cell.specs.Cells.{largest, sound, wouldPass, withWeight, withRefused}
+use Rattle.hour_cell.specs.Counting.{byReading, byNoted, countsAs}
 use Rattle.hour_cell.proofs.Sums.{grown-size, counts-size}
 use Rattle.demands.specs.Tables.{settledGross, refusedRecord, tenthsOf}
 
@@ -42,7 +42,7 @@ byHand item = cond (refusedRecord item) Met (cond (settledGross item) (Weight (t
 
 -- of a weighing that could be read
 abbrev weighed : Record → CountsAs
-weighed item = cond (marked settled (item .status) && not (marked overload (item .status))) (Weight (tenthsOf item)) Nothing
+weighed item = cond (eqb (item .kind) 1 && marked settled (item .status) && not (marked overload (item .status))) (Weight (tenthsOf item)) Nothing
 
 abbrev bytesRight : Record → Family → Bool
 bytesRight item family = allDecimal (item .w0) (item .w1) (item .w2) && allowed (terminal family .sixth) (marked sixth (item .status))
@@ -50,49 +50,66 @@ bytesRight item family = allDecimal (item .w0) (item .w1) (item .w2) && allowed 
 abbrev readingShown : Record → Family → Reading
 readingShown item family = readingOf family (digitsOf (item .w0) (item .w1) (item .w2)) (item .status)
 
-by-family : (item : Record) (family : Family) → readable (readAs family (weightBytes item)) ≡ true → byNoted (readAs family (weightBytes item)) ≡ weighed item
+by-family : (item : Record) (family : Family) → readable (readAs family (weightBytes item)) ≡ true → byNoted (item .kind) (readAs family (weightBytes item)) ≡ weighed item
 unfolding readAs byReading valueOf
 by-family item family = by-test (bytesRight item family) refl
   where
     by-test : (right : Bool) → bytesRight item family ≡ right
         → readable (cond right (read-as.Good (readingShown item family)) (read-as.Refused FieldOutside)) ≡ true
-        → byNoted (cond right (read-as.Good (readingShown item family)) (read-as.Refused FieldOutside)) ≡ weighed item
+        → byNoted (item .kind) (cond right (read-as.Good (readingShown item family)) (read-as.Refused FieldOutside)) ≡ weighed item
     by-test true right e =
         let (digits, bit) = and-eq-true-iff (allDecimal (item .w0) (item .w1) (item .w2)) (allowed (terminal family .sixth) (marked sixth (item .status))) .0 right in
         rw (legal-of-read family (weightBytes item) digits bit)
     by-test false right e = absurd (true≢false (sym e))
 
-by-name : (item : Record) (named : FamilyNamed) → readable (readNamed named (weightBytes item)) ≡ true → byNoted (readNamed named (weightBytes item)) ≡ weighed item
+by-name : (item : Record) (named : FamilyNamed) → readable (readNamed named (weightBytes item)) ≡ true → byNoted (item .kind) (readNamed named (weightBytes item)) ≡ weighed item
 by-name item (named-as.Family family) e = by-family item family e
 by-name item named-as.Unknown e = absurd (true≢false (sym e))
 
-by-reading : (item : Record) → readable (readingIn item) ≡ true → byNoted (readingIn item) ≡ weighed item
+by-reading : (item : Record) → readable (readingIn item) ≡ true → byNoted (item .kind) (readingIn item) ≡ weighed item
 unfolding readOf
 by-reading item = by-name item (familyNamed (item .family))
 
-gross-readable : (item : Record) → good item ≡ true → eqb (item .kind) 1 ≡ true → readable (readingIn item) ≡ true
+weighing-readable : (item : Record) → good item ≡ true → wasMet item ≡ false → readable (readingIn item) ≡ true
 unfolding good goodWeighing
-gross-readable item is-good gross = and-eq-true-iff (goodAddress item) (readable (readingIn item)) .0 (rw gross at is-good) .1
+weighing-readable item is-good unmet = by-weighs (weighs item) (rw unmet at is-good)
+  where
+    by-weighs : (weighing : Bool) → cond weighing (goodAddress item && readable (readingIn item)) false ≡ true → readable (readingIn item) ≡ true
+    by-weighs true e = and-eq-true-iff (goodAddress item) (readable (readingIn item)) .0 e .1
+    by-weighs false e = absurd (true≢false (sym e))
+
+weighed-by-hand : (item : Record) → weighed item ≡ cond (settledGross item) (Weight (tenthsOf item)) Nothing
+weighed-by-hand item = by-kind (eqb (item .kind) 1)
+  where
+    by-kind : (gross : Bool) → cond (gross && marked settled (item .status) && not (marked overload (item .status))) (Weight (tenthsOf item)) Nothing
+        ≡ cond (gross && (marked settled (item .status) && not (marked overload (item .status)))) (Weight (tenthsOf item)) Nothing
+    by-kind true = refl
+    by-kind false = refl
 
 counts-by-hand : (item : Record) → good item ≡ true → countsAs item ≡ byHand item
 unfolding countsAs
-counts-by-hand item is-good = by-met (wasMet item) refl
+counts-by-hand item is-good = rw is-good (by-met (wasMet item) refl)
   where
-    by-gross : wasMet item ≡ false → (gross : Bool) → eqb (item .kind) 1 ≡ gross
-        → cond gross (byNoted (weightNoted item)) Nothing ≡ cond (gross && (marked settled (item .status) && not (marked overload (item .status)))) (Weight (tenthsOf item)) Nothing
-    by-gross weighs true e = rw (weighing-noted item is-good weighs) (by-reading item (gross-readable item is-good e))
-    by-gross weighs false e = refl
-
     by-met : (met : Bool) → wasMet item ≡ met
-        → cond met Met (cond (eqb (item .kind) 1) (byNoted (weightNoted item)) Nothing) ≡ cond met Met (cond (settledGross item) (Weight (tenthsOf item)) Nothing)
+        → cond met Met (byNoted (item .kind) (weightNoted item)) ≡ cond met Met (cond (settledGross item) (Weight (tenthsOf item)) Nothing)
     by-met true e = refl
-    by-met false e = by-gross e (eqb (item .kind) 1) refl
+    by-met false e = rw (weighing-noted item is-good e) (by-reading item (weighing-readable item is-good e) ∙ weighed-by-hand item)
 
 -- kind 3 is not kind 1
 met-only : (item : Record) → refusedRecord item ≡ true → settledGross item ≡ false
 met-only item met = rw (eqb-true (item .kind) 3 met)
 
 -- ---- a record and a cell
+
+-- a cell into which a record goes, by what it counts as: what counts for nothing leaves it as it is
+abbrev pub addedAs : CountsAs → Cell → Added
+addedAs (Weight tenths) cell = withWeight tenths cell
+addedAs Met cell = withRefused cell
+addedAs Nothing cell = added-as.Cell cell
+addedAs (Refused why) cell = added-as.Refused why
+
+unfoldable pub added : Record → Cell → Added
+added item cell = addedAs (countsAs item) cell
 
 -- a count that has not passed does not pass
 pub record StaysFew (before after : Cell) : Type 0 where
@@ -139,7 +156,9 @@ module _ (item : Record) (cell : Cell) where
 
   one-weight : countsAs item ≡ Weight (tenthsOf item) → refusedRecord item ≡ false → settledGross item ≡ true → Went item cell (withWeight (tenthsOf item) cell)
   unfolding withWeight
-  one-weight weight unmet gross = by-room (wouldPass (cell .weights)) refl
+  one-weight weight unmet gross =
+      let within : ltb largest (natAbs (tenthsOf item)) ≡ false = le-ltb _ _ (counts-size item (tenthsOf item) weight) in
+      rw within (by-sound (sound cell) refl)
     where
       by-room : (past : Bool) → wouldPass (cell .weights) ≡ past → Went item cell (cond past (added-as.Refused CountFull) (added-as.Cell (heavier item cell)))
       by-room true past = full (full-weights gross (omega (arith, ltb-true 65535 (cell .weights + 1) past)))
@@ -151,13 +170,18 @@ module _ (item : Record) (cell : Cell) where
         few = record { weights = λ _. omega (arith, ltb-false 65535 (cell .weights + 1) past); refused = λ few. few };
       }
 
+      by-sound : (is-sound : Bool) → sound cell ≡ is-sound
+          → Went item cell (cond (not is-sound) (added-as.Refused SumBeyond) (cond (wouldPass (cell .weights)) (added-as.Refused CountFull) (added-as.Cell (heavier item cell))))
+      by-sound true e = by-room (wouldPass (cell .weights)) refl
+      by-sound false e = beyond e
+
   met-stays : sound cell ≡ true → sound (refusedMore cell) ≡ true
   unfolding sound
   met-stays s = s
 
   one-met : refusedRecord item ≡ true → Went item cell (withRefused cell)
   unfolding withRefused
-  one-met met = by-room (wouldPass (cell .refused)) refl
+  one-met met = by-sound (sound cell) refl
     where
       by-room : (past : Bool) → wouldPass (cell .refused) ≡ past → Went item cell (cond past (added-as.Refused CountFull) (added-as.Cell (refusedMore cell)))
       by-room true past = full (full-refused met (omega (arith, ltb-true 65535 (cell .refused + 1) past)))
@@ -169,6 +193,11 @@ module _ (item : Record) (cell : Cell) where
         few = record { weights = λ few. few; refused = λ _. omega (arith, ltb-false 65535 (cell .refused + 1) past) };
       }
 
+      by-sound : (is-sound : Bool) → sound cell ≡ is-sound
+          → Went item cell (cond (not is-sound) (added-as.Refused SumBeyond) (cond (wouldPass (cell .refused)) (added-as.Refused CountFull) (added-as.Cell (refusedMore cell))))
+      by-sound true e = by-room (wouldPass (cell .refused)) refl
+      by-sound false e = beyond e
+
   nothing-more : refusedRecord item ≡ false → settledGross item ≡ false → Grown item cell cell
   nothing-more unmet light = record {
     weights = rw light (omega arith);
@@ -179,25 +208,24 @@ module _ (item : Record) (cell : Cell) where
   }
 
   by-counts : (met gross : Bool) → refusedRecord item ≡ met → settledGross item ≡ gross → countsAs item ≡ cond met Met (cond gross (Weight (tenthsOf item)) Nothing)
-      → Went item cell (counted (cond met Met (cond gross (Weight (tenthsOf item)) Nothing)) cell)
+      → Went item cell (addedAs (cond met Met (cond gross (Weight (tenthsOf item)) Nothing)) cell)
   by-counts true gross e f counts = one-met e
   by-counts false true e f counts = one-weight counts e f
   by-counts false false e f counts = nothing-more e f
 
+  broken-counts : good item ≡ false → countsAs item ≡ Refused RecordBroken
+  unfolding countsAs
+  broken-counts bad = rw bad
+
   went : Went item cell (added item cell)
   unfolding added
-  went = by-sound (sound cell) refl
+  went = by-good (good item) refl
     where
-      by-good : (is-good : Bool) → good item ≡ is-good → Went item cell (cond (not is-good) (added-as.Refused RecordBroken) (counted (countsAs item) cell))
+      by-good : (is-good : Bool) → good item ≡ is-good → Went item cell (addedAs (countsAs item) cell)
       by-good true e =
           let counts = counts-by-hand item e in
           rw counts (by-counts (refusedRecord item) (settledGross item) refl refl counts)
-      by-good false e = broken e
-
-      by-sound : (is-sound : Bool) → sound cell ≡ is-sound
-          → Went item cell (cond (not is-sound) (added-as.Refused SumBeyond) (cond (not (good item)) (added-as.Refused RecordBroken) (counted (countsAs item) cell)))
-      by-sound true e = by-good (good item) refl
-      by-sound false e = beyond e
+      by-good false e = rw (broken-counts e) (broken e)
 
   pub grown : (after : Cell) → added item cell ≡ added-as.Cell after → Grown item cell after
   grown after e = subst (Went item cell) e went

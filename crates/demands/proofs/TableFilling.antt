@@ -17,15 +17,17 @@ use Rattle.hour_cell.specs.declared.cells.Cell.{Cell}
 use Rattle.hour_cell.specs.declared.adding.Added.{Added}
 use Rattle.hour_cell.specs.declared.adding.Added.the-variants as added-as
 use Rattle.hour_cell.specs.Slots.{slotOf}
-use Rattle.hour_cell.specs.Adding.{added}
+use Rattle.hour_cell.specs.declared.counting.CountsAs.{CountsAs}
+use Rattle.hour_cell.specs.declared.counting.CountsAs.the-variants as counts-as
+use Rattle.hour_cell.specs.Counting.{countsAs}
 use Rattle.hour_table.specs.declared.filled.Filled.{Filled}
 use Rattle.hour_table.specs.Tables.{Table, cellAt, withCell, soundTable}
-use Rattle.hour_table.specs.Filling.{stays, replacedBy, put, followed, poured}
+use Rattle.hour_table.specs.Filling.{stays, replacedBy, putAs, put, followed, poured}
 use Rattle.demands.specs.Tables.{falls, weightIn, refusedIn, tenthsOf, howMany, sumOf, cellOf}
 use Rattle.demands.specs.LentTables.{Holds, SevenByTwentyFour}
-use Rattle.demands.proofs.TableCells.{There, with-cell-seven, replaced, kept}
+use Rattle.demands.proofs.TableCells.{There, same-cell, with-cell-seven, replaced, kept}
 use Rattle.demands.proofs.TableSound.{cell-sound, with-cell-sound}
-use Rattle.demands.proofs.TableCounts.{StaysFew, few-same, Grown, grown}
+use Rattle.demands.proofs.TableCounts.{addedAs, added, StaysFew, few-same, Grown, grown}
 
 -- ---- counted by hand, one record ahead of others
 
@@ -87,6 +89,17 @@ cellFor item table = cellAt table (slotOf (item .time))
 
 abbrev pub next : Record → Table → Cell → Table
 next item table cell = withCell table (slotOf (item .time)) cell
+
+-- what counts for nothing replaces a cell by itself
+put-added : (item : Record) (table : Table) → put item table ≡ replacedBy (added item (cellFor item table)) (slotOf (item .time)) table
+unfolding put added
+put-added item table = by-counts (countsAs item)
+  where
+    by-counts : (counts : CountsAs) → putAs counts (slotOf (item .time)) table ≡ replacedBy (addedAs counts (cellFor item table)) (slotOf (item .time)) table
+    by-counts (counts-as.Weight tenths) = refl
+    by-counts counts-as.Met = refl
+    by-counts counts-as.Nothing = rw (same-cell table (slotOf (item .time)))
+    by-counts (counts-as.Refused why) = refl
 
 pub slot-there : (time : ℕ) → There (slotOf time)
 unfolding slotOf
@@ -153,9 +166,9 @@ pub data Poured (ending : Verdict) : List Record → Table → Filled → Type 0
       → Poured ending (item ∷ items) table (record { table = rest .table; records = suc (rest .records); verdict = rest .verdict })
 
 pub pours : (items : List Record) (ending : Verdict) (table : Table) → Poured ending items table (poured items ending table)
-unfolding poured put
+unfolding poured
 pours [] ending table = ends
-pours (item ∷ items) ending table = by-added (added item (cellFor item table)) refl (pours items ending)
+pours (item ∷ items) ending table = rw (put-added item table) (by-added (added item (cellFor item table)) refl (pours items ending))
   where
     by-added : (made : Added) → added item (cellFor item table) ≡ made → ((next : Table) → Poured ending items next (poured items ending next))
         → Poured ending (item ∷ items) table
@@ -167,8 +180,8 @@ pours (item ∷ items) ending table = by-added (added item (cellFor item table))
 
 -- one record is a list of one
 pub put-alone : (item : Record) (table : Table) → put item table ≡ poured (item ∷ []) Good table
-unfolding put poured
-put-alone item table = by-added (added item (cellFor item table))
+unfolding poured
+put-alone item table = rw (put-added item table) (by-added (added item (cellFor item table)))
   where
     by-added : (made : Added) → replacedBy made (slotOf (item .time)) table
         ≡ followed (replacedBy made (slotOf (item .time)) table .verdict) (replacedBy made (slotOf (item .time)) table)
@@ -208,9 +221,9 @@ poured-few (goes e more) = omega (arith, poured-few more)
 -- the table is the one that the records which went in make by themselves
 pub poured-again : {ending : Verdict} {items : List Record} {table : Table} {filled : Filled} → Poured ending items table filled
     → poured (take (filled .records) items) Good table ≡ record { table = filled .table; records = filled .records; verdict = Good }
-unfolding poured put
+unfolding poured
 poured-again ends = refl
 poured-again (stops e) = refl
-poured-again (goes {rest = rest} e more) =
+poured-again (goes {item} {table = table} {rest = rest} e more) =
     let one : 1 + rest .records ≡ suc (rest .records) = omega arith in
-    rw (e, poured-again more, one)
+    rw (put-added item table, e, poured-again more, one)

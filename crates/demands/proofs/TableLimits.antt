@@ -17,13 +17,12 @@ use Rattle.hour_cell.specs.declared.cells.Cell.{Cell}
 use Rattle.hour_cell.specs.declared.adding.Added.the-variants as added-as
 use Rattle.hour_cell.specs.Cells.{sound}
 use Rattle.hour_cell.specs.Slots.{slotOf}
-use Rattle.hour_cell.specs.Adding.{added}
 use Rattle.hour_table.specs.declared.filled.Filled.{Filled}
 use Rattle.hour_table.specs.Tables.{Table, soundTable}
 use Rattle.demands.specs.Tables.{weightIn, refusedIn, howMany, cellOf}
 use Rattle.demands.specs.LentTables.{SevenByTwentyFour, KeptSound, Room, Passes}
 use Rattle.demands.proofs.TableSound.{cell-sound}
-use Rattle.demands.proofs.TableCounts.{Full, full-weights, full-refused, Stopped, beyond, broken, full, stopped}
+use Rattle.demands.proofs.TableCounts.{added, Full, full-weights, full-refused, Stopped, beyond, broken, full, stopped}
 use Rattle.demands.proofs.TableFilling.{many-then, cellFor, next, slot-there, falls-own, next-sound, next-seven, one-in, Poured, ends, stops, goes, poured-holds, poured-below}
 use Rattle.demands.proofs.TableLogs.{AllGood}
 

@@ -13,13 +13,12 @@ use Rattle.hour_cell.specs.declared.slots.Slot.{Slot}
 use Rattle.hour_cell.specs.declared.adding.Added.the-variants as added-as
 use Rattle.hour_cell.specs.Cells.{emptyCell}
 use Rattle.hour_cell.specs.Slots.{slotOf}
-use Rattle.hour_cell.specs.Adding.{added}
 use Rattle.hour_table.specs.declared.filled.Filled.{Filled}
 use Rattle.hour_table.specs.Tables.{Table, emptyTable, cellAt, withCell}
 use Rattle.demands.specs.Tables.{settledGross, refusedRecord, howMany, overCells, overTable}
-use Rattle.demands.specs.LentTables.{SevenByTwentyFour}
+use Rattle.demands.specs.LentTables.{SevenByTwentyFour, HeldTogether}
 use Rattle.demands.proofs.TableCells.{There, row-there, hour-there}
-use Rattle.demands.proofs.TableCounts.{Grown}
+use Rattle.demands.proofs.TableCounts.{added, Grown}
 use Rattle.demands.proofs.TableFilling.{many-then, cellFor, next, slot-there, grew, next-seven, Poured, ends, stops, goes}
 
 -- ---- one cell replaced
@@ -83,16 +82,12 @@ abbrev refusedOf : Table → ℕ
 refusedOf = overTable (λ (cell : Cell). cell .refused)
 
 -- all cells together hold what they held, and what was counted
-pub record HoldTogether (before : Table) (items : List Record) (after : Table) : Type 0 where
-  pub weights : weightsOf after ≡ weightsOf before + howMany settledGross items
-  pub refused : refusedOf after ≡ refusedOf before + howMany refusedRecord items
-
-pub together-nothing : (table : Table) → HoldTogether table [] table
+pub together-nothing : (table : Table) → HeldTogether table [] table
 unfolding howMany
 together-nothing table = record { weights = omega arith; refused = omega arith }
 
 pub poured-together : {ending : Verdict} {items : List Record} {table : Table} {filled : Filled} → Poured ending items table filled → SevenByTwentyFour table
-    → HoldTogether table (take (filled .records) items) (filled .table)
+    → HeldTogether table (take (filled .records) items) (filled .table)
 unfolding howMany
 poured-together steps seven = record {
   weights = poured-total (λ (cell : Cell). cell .weights) settledGross (λ item before after grown. grown .weights) steps seven;

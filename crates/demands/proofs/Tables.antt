@@ -1,13 +1,15 @@
 -- Shown: a table filled from a log holds in each cell, and in all together, what a person counts in the records that went in, and when all go in.
 -- Why: it is the lent table in which nothing was heard, so each cell holds nothing but what was counted.
-use Prim.Native.Nat.{ℕ, _/_, _%_}
+use Prim.Native.Nat.{ℕ, _/_, _%_, _<_}
 use mathlib.Core.Path.{_≡_, _∙_, refl, sym, ap}
 use mathlib.Core.Bool.{Bool, true, false, cond, and-eq-true-iff}
-use mathlib.Core.List.{List}
+use mathlib.Core.List.{List, []}
 use native.Mathlib.Omega.{arith}
 use borrow.Author.Tests.{eqb-true, eq-eqb}
 use lib.Dec.{eqb}
 use lib.IntN.{+ℤ-idl}
+use lib.Seq.{take-length}
+use Rattle.records.specs.declared.records.Record.{Record}
 use Rattle.records.specs.Stepping.{wholeLog}
 use Rattle.hour_cell.specs.declared.cells.Cell.{Cell}
 use Rattle.hour_cell.specs.Slots.{slotOf}
@@ -16,13 +18,13 @@ use Rattle.hour_table.specs.Tables.{emptyTable}
 use Rattle.hour_table.specs.Filling.{filledFrom}
 use Rattle.hour_mean.specs.declared.Mean.the-variants as mean-as
 use Rattle.hour_mean.specs.Means.{lowest, meanOf}
-use Rattle.demands.specs.Tables.{cellOf, CellsAreCounted, GoesInWhole, NotInTwoCells, EachHasACell, NothingHeard, SomethingHeard, AllAreCounted}
+use Rattle.demands.specs.Tables.{howMany, cellOf, CellsAreCounted, Fits, GoesInWhole, WholeOnlyWhereItFits, NotInTwoCells, EachHasACell, NothingHeard, SomethingHeard, AllAreCounted}
+use Rattle.demands.specs.LentTables.{Room}
 use Rattle.demands.proofs.TableCells.{empty-seven, empty-cell}
 use Rattle.demands.proofs.TableSound.{empty-is-sound, cell-sound}
 use Rattle.demands.proofs.TableFilling.{slot-there, falls-own}
-use Rattle.demands.proofs.TableLimits.{AllRoom}
 use Rattle.demands.proofs.TableTotals.{empty-weights, empty-refused}
-use Rattle.demands.proofs.LentTables.{filled-further, filled-together, lent-goes-in-whole, stays-sound}
+use Rattle.demands.proofs.LentTables.{filled-further, nothing-lost-of-lent, lent-goes-in-whole, counts-never-pass, stays-sound}
 
 -- ---- each cell is what was counted
 
@@ -31,17 +33,35 @@ cells-are-counted log weekday hour w h =
     let held = rw (empty-cell weekday hour w h) at (filled-further log emptyTable weekday hour empty-seven) in
     record { weights = omega (arith, held .weights); sum = held .sum ∙ +ℤ-idl _; refused = omega (arith, held .refused) }
 
+-- ---- what fits has room in the table in which nothing was heard
+
+module _ (items : List Record) (weekday hour : ℕ) (w : weekday < 7) (h : hour < 24) where
+  no-weights-yet : cellOf emptyTable weekday hour .weights ≡ 0
+  no-weights-yet = ap (λ (cell : Cell). cell .weights) (empty-cell weekday hour w h)
+
+  none-refused-yet : cellOf emptyTable weekday hour .refused ≡ 0
+  none-refused-yet = ap (λ (cell : Cell). cell .refused) (empty-cell weekday hour w h)
+
+  room-there : Fits items weekday hour → Room emptyTable items weekday hour
+  room-there fit = record { weights = omega (arith, fit .weights, no-weights-yet); refused = omega (arith, fit .refused, none-refused-yet) }
+
+  fits-there : Room emptyTable items weekday hour → Fits items weekday hour
+  fits-there room = record { weights = omega (arith, room .weights, no-weights-yet); refused = omega (arith, room .refused, none-refused-yet) }
+
 pub goes-in-whole : GoesInWhole
-goes-in-whole log fits = lent-goes-in-whole log emptyTable empty-seven empty-is-sound room
-  where
-    room : AllRoom emptyTable (wholeLog log .records)
-    room weekday hour w h =
-        let fit = fits weekday hour w h in
-        let nothing = empty-cell weekday hour w h in
-        record {
-          weights = omega (arith, fit .weights, ap (λ (cell : Cell). cell .weights) nothing);
-          refused = omega (arith, fit .refused, ap (λ (cell : Cell). cell .refused) nothing);
-        }
+goes-in-whole log fits =
+    lent-goes-in-whole log emptyTable empty-seven empty-is-sound
+    (λ weekday hour w h. room-there (wholeLog log .records) weekday hour w h (fits weekday hour w h))
+
+none-fit : (weekday hour : ℕ) → Fits [] weekday hour
+unfolding howMany
+none-fit weekday hour = record { weights = omega arith; refused = omega arith }
+
+-- if all went in, those that went in are all
+pub whole-only-where-it-fits : WholeOnlyWhereItFits
+whole-only-where-it-fits log gone weekday hour w h =
+    let room = counts-never-pass log emptyTable empty-seven (λ day at d a. room-there [] day at d a (none-fit day at)) weekday hour w h in
+    fits-there (wholeLog log .records) weekday hour w h (rw (gone .all, take-length (wholeLog log .records)) at room)
 
 -- ---- one cell for each record
 
@@ -96,5 +116,5 @@ something-heard log weekday hour w h e =
 
 pub all-are-counted : AllAreCounted
 all-are-counted log =
-    let held = filled-together log emptyTable empty-seven in
+    let held = nothing-lost-of-lent log emptyTable empty-seven in
     record { weights = omega (arith, held .weights, empty-weights); refused = omega (arith, held .refused, empty-refused) }

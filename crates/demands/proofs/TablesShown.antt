@@ -1,4 +1,4 @@
--- Shown: times at the edges, a small log counted by hand and filled, lent tables, the edges of 31, 11 and 23, means.
+-- Shown: times at the edges, a small log counted by hand and filled, lent tables, what records count as, the edges of 31, 8 and 23, means.
 -- Why: each is computed from the definitions.
 use mathlib.Core.Path.{refl}
 use Rattle.refusal.specs.Numbers.{namedIn, namedOf}
@@ -14,12 +14,12 @@ use Rattle.records.specs.Stepping.{recordsOf, wholeLog, bytesOfLog}
 use Rattle.records.specs.Weighings.{weightNoted}
 use Rattle.hour_cell.specs.Slots.{slotOf}
 use Rattle.hour_cell.specs.Cells.{sound, withWeight, withRefused}
-use Rattle.hour_cell.specs.Adding.{byReading, countsAs, added}
+use Rattle.hour_cell.specs.Counting.{byReading, countsAs}
 use Rattle.hour_table.specs.Tables.{emptyTable, soundRow, soundTable}
 use Rattle.hour_table.specs.Filling.{put, entered, poured, filledFrom}
 use Rattle.hour_mean.specs.Means.{greatestUpTo, greatestCommon, lowest, meanOf}
 use Rattle.demands.specs.Tables.{howMany, sumOf}
-use Rattle.demands.specs.TablesShown.{SlotsShown, CountedByHand, SmallLogFilled, LentAtTheEdges, SoundShown, EdgesShown, MeansShown}
+use Rattle.demands.specs.TablesShown.{SlotsShown, CountedByHand, SmallLogFilled, LentAtTheEdges, SoundShown, CountsShown, EdgesShown, MeansShown}
 
 pub slots-shown : SlotsShown
 unfolding slotOf
@@ -30,11 +30,11 @@ unfolding howMany sumOf
 counted-by-hand = record { first = refl; first-sum = refl; first-refused = refl; second = refl; second-refused = refl; last = refl; exchanged = refl }
 
 pub small-log-filled : SmallLogFilled
-unfolding namedIn namedOf lowFirst lowBytes familyIn familyNamed inRange readAs readOf valueOf legal bytesOfRecord recordIn addressOf goodAddress goodWeighing goodMet good makeRecord readRecord recordsOf wholeLog bytesOfLog weightNoted slotOf sound withWeight withRefused byReading countsAs added emptyTable soundRow soundTable put poured filledFrom
+unfolding namedIn namedOf lowFirst lowBytes familyIn familyNamed inRange readAs readOf valueOf legal bytesOfRecord recordIn addressOf goodAddress goodWeighing goodMet good makeRecord readRecord recordsOf wholeLog bytesOfLog weightNoted slotOf sound withWeight withRefused byReading countsAs emptyTable soundRow soundTable put poured filledFrom
 small-log-filled = record { silent = refl; whole = refl; left-over = refl; broken-first = refl; empty = refl }
 
 pub lent-at-the-edges : LentAtTheEdges
-unfolding namedIn namedOf lowFirst lowBytes familyIn familyNamed inRange readAs readOf valueOf legal bytesOfRecord recordIn addressOf goodAddress goodWeighing goodMet good makeRecord readRecord recordsOf wholeLog bytesOfLog weightNoted slotOf sound withWeight withRefused byReading countsAs added emptyTable soundRow soundTable put entered poured filledFrom
+unfolding namedIn namedOf lowFirst lowBytes familyIn familyNamed inRange readAs readOf valueOf legal bytesOfRecord recordIn addressOf goodAddress goodWeighing goodMet good makeRecord readRecord recordsOf wholeLog bytesOfLog weightNoted slotOf sound withWeight withRefused byReading countsAs emptyTable soundRow soundTable put entered poured filledFrom
 lent-at-the-edges = record {
   stops = refl;
   stops-ahead = refl;
@@ -52,9 +52,13 @@ pub sound-shown : SoundShown
 unfolding sound
 sound-shown = refl
 
+pub counts-shown : CountsShown
+unfolding namedIn namedOf familyIn familyNamed inRange readAs readOf valueOf legal addressOf goodAddress goodWeighing goodMet good weightNoted byReading countsAs
+counts-shown = refl
+
 pub edges-shown : EdgesShown
-unfolding namedIn namedOf familyIn familyNamed inRange readAs readOf valueOf legal addressOf goodAddress goodWeighing goodMet good weightNoted sound withWeight withRefused byReading countsAs added
-edges-shown = record { answered = refl; full = refl; beyond = refl }
+unfolding sound withWeight withRefused
+edges-shown = record { weights = refl; refused = refl; full = refl; beyond = refl }
 
 pub means-shown : MeansShown
 unfolding sound greatestUpTo greatestCommon lowest meanOf

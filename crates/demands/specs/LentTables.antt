@@ -20,7 +20,7 @@ use Rattle.hour_table.specs.Tables.{Table, emptyTable, soundTable}
 use Rattle.hour_table.specs.Filling.{stays, entered, followed, filledFrom}
 use Rattle.hour_mean.specs.declared.Mean.the-variants as mean-as
 use Rattle.hour_mean.specs.Means.{meanOf}
-use Rattle.demands.specs.Tables.{weightIn, refusedIn, howMany, sumOf, cellOf, wentIn, GoneIn}
+use Rattle.demands.specs.Tables.{settledGross, refusedRecord, weightIn, refusedIn, howMany, sumOf, cellOf, wentIn, GoneIn, overTable}
 
 -- ---- "The table is seven rows of twenty-four cells"
 
@@ -62,7 +62,7 @@ pub record BeyondFirst (table : Table) : Type 0 where
 
 abbrev pub AnyCellBeyond : Type 0
 AnyCellBeyond =
-    (table : Table) (weekday hour : ℕ) → SevenByTwentyFour table → weekday < 7 → hour < 24 → IsBeyond (cellOf table weekday hour) → BeyondFirst table
+    (table : Table) (weekday hour : ℕ) → IsBeyond (cellOf table weekday hour) → BeyondFirst table
 
 -- a table without such a cell is sound
 abbrev pub NoCellBeyond : Type 0
@@ -84,6 +84,15 @@ pub record StaysSound : Type 0 where
 abbrev pub MeansOfSound : Type 0
 MeansOfSound =
     (table : Table) (weekday hour : ℕ) → soundTable table ≡ true → meanOf (cellOf table weekday hour) ≡ mean-as.Refused SumBeyond → ⊥
+
+-- ---- all cells of a lent table together: what they held, and all settled gross weights without overload, and all refused records, that went in
+
+pub record HeldTogether (before : Table) (items : List Record) (table : Table) : Type 0 where
+  pub weights : overTable (λ (cell : Cell). cell .weights) table ≡ overTable (λ (cell : Cell). cell .weights) before + howMany settledGross items
+  pub refused : overTable (λ (cell : Cell). cell .refused) table ≡ overTable (λ (cell : Cell). cell .refused) before + howMany refusedRecord items
+
+abbrev pub NothingLostOfLent : Type 0
+NothingLostOfLent = (log : List ℕ) (table : Table) → SevenByTwentyFour table → HeldTogether table (wentIn log (filledFrom log table)) (filledFrom log table .table)
 
 -- ---- 23: "when a count would pass 65,535"
 

@@ -90,6 +90,12 @@ GoesInWhole =
     (log : List ℕ) → ((weekday hour : ℕ) → weekday < 7 → hour < 24 → Fits (wholeLog log .records) weekday hour)
     → GoneIn log (filledFrom log emptyTable)
 
+-- and only there
+abbrev pub WholeOnlyWhereItFits : Type 0
+WholeOnlyWhereItFits =
+    (log : List ℕ) → GoneIn log (filledFrom log emptyTable)
+    → (weekday hour : ℕ) → weekday < 7 → hour < 24 → Fits (wholeLog log .records) weekday hour
+
 -- ---- "no record counts in two cells", and each has one
 
 pub record Same (weekday hour weekday′ hour′ : ℕ) : Type 0 where

@@ -6,7 +6,7 @@ use mathlib.Core.Bool.{true, false}
 use mathlib.Core.List.{List, [], _∷_, _++_, map}
 use lib.IntN.{ℤ, pos, negsuc, negℤ}
 use lib.ListN.{replicate}
-use Rattle.refusal.specs.declared.Refusal.the-variants.{LogLeftOver, RecordBroken, CountFull, SumBeyond}
+use Rattle.refusal.specs.declared.Refusal.the-variants.{FieldOutside, LogLeftOver, RecordBroken, CountFull, SumBeyond}
 use Rattle.refusal.specs.declared.Verdict.{Verdict}
 use Rattle.refusal.specs.declared.Verdict.the-variants.{Good, Refused}
 use Rattle.refusal.specs.Numbers.{numberOf}
@@ -17,8 +17,9 @@ use Rattle.hour_cell.specs.declared.slots.Slot.{Slot}
 use Rattle.hour_cell.specs.declared.adding.Added.{Added}
 use Rattle.hour_cell.specs.declared.adding.Added.the-variants as added-as
 use Rattle.hour_cell.specs.Slots.{slotOf}
-use Rattle.hour_cell.specs.Cells.{sound}
-use Rattle.hour_cell.specs.Adding.{added}
+use Rattle.hour_cell.specs.declared.counting.CountsAs.the-variants as counts-as
+use Rattle.hour_cell.specs.Cells.{largest, sound, withWeight, withRefused}
+use Rattle.hour_cell.specs.Counting.{countsAs}
 use Rattle.hour_table.specs.declared.filled.Filled.{Filled}
 use Rattle.hour_table.specs.Tables.{Table, emptyTable}
 use Rattle.hour_table.specs.Filling.{entered, filledFrom}
@@ -44,7 +45,7 @@ SlotsShown =
 
 -- ---- a small log
 
--- a weighing of address 01 and family 002 by its time, kind, status and three weight bytes; a refusal met on the line
+-- a weighing of address 01 and family 002 by its time, kind, status and two weight bytes, the third being 0; a refusal met on the line
 abbrev pub weighing : ℕ → ℕ → ℕ → ℕ → ℕ → Record
 weighing time kind status w0 w1 = record { time = time; kind = kind; address = 1; serial = 0; status = status; w0 = w0; w1 = w1; w2 = 0; family = 3 }
 
@@ -133,10 +134,7 @@ pub record LentAtTheEdges : Type 0 where
   pub beyond-broken : filledFrom (bytesOfLog (broken ∷ [])) beyondLast ≡ filledBy beyondLast 0 (Refused SumBeyond)
   pub beyond-record : entered (weighing 600 1 0x11 0x51 0x02) beyondLast ≡ filledBy beyondLast 0 (Refused SumBeyond)
 
--- ---- the edges of 31, 11 and 23, for one record and its cell
-
-abbrev pub largest : ℕ
-largest = 9999990000000
+-- ---- the edges of 31, 11, 8 and 23, for one record and its cell
 
 abbrev pub SoundShown : Type 0
 SoundShown =
@@ -153,31 +151,53 @@ SoundShown =
     ∷ [])
     ≡ true ∷ false ∷ false ∷ true ∷ false ∷ true ∷ false ∷ true ∷ false ∷ []
 
+-- what a record counts as: gross, below 0, net, not settled, overloaded, a refusal, and 11
+abbrev pub CountsShown : Type 0
+CountsShown =
+    map countsAs
+    (weighing 600 1 0x11 0x51 0x02
+    ∷ weighing 600 1 0x91 0x05 0x00
+    ∷ weighing 600 2 0x11 0x51 0x02
+    ∷ weighing 600 1 0x01 0x51 0x02
+    ∷ weighing 600 1 0x19 0x51 0x02
+    ∷ met 600 8
+    ∷ met 600 9
+    ∷ weighing 600 1 0x11 0x5A 0x02
+    ∷ [])
+    ≡ counts-as.Weight (pos 251000000)
+    ∷ counts-as.Weight (negsuc 4999999)
+    ∷ counts-as.Nothing
+    ∷ counts-as.Nothing
+    ∷ counts-as.Nothing
+    ∷ counts-as.Met
+    ∷ counts-as.Refused RecordBroken
+    ∷ counts-as.Refused RecordBroken
+    ∷ []
+
 pub record Asked : Type 0 where
-  pub item : Record
+  pub tenths : ℤ
   pub into : Cell
   pub answer : Added
 
-abbrev pub asked : Record → Cell → Added → Asked
-asked item into answer = record { item = item; into = into; answer = answer }
+abbrev pub asked : ℤ → Cell → Added → Asked
+asked tenths into answer = record { tenths = tenths; into = into; answer = answer }
 
--- 65,535 is reached and not passed; what does not count is good in a full cell; 31 goes before 11, and 11 before 23
-abbrev pub edges : List Asked
-edges =
-    asked (weighing 600 1 0x11 0x51 0x02) (cell 65534 (pos 0) 9) (added-as.Cell (cell 65535 (pos 251000000) 9))
-    ∷ asked (weighing 600 1 0x11 0x51 0x02) (cell 65535 (pos 0) 9) (added-as.Refused CountFull)
-    ∷ asked (met 600 8) (cell 65535 (pos 0) 65534) (added-as.Cell (cell 65535 (pos 0) 65535))
-    ∷ asked (met 600 8) (cell 65534 (pos 0) 65535) (added-as.Refused CountFull)
-    ∷ asked (weighing 600 2 0x11 0x51 0x02) (cell 65535 (pos 7) 65535) (added-as.Cell (cell 65535 (pos 7) 65535))
-    ∷ asked (weighing 600 1 0x01 0x51 0x02) (cell 65535 (pos 7) 65535) (added-as.Cell (cell 65535 (pos 7) 65535))
-    ∷ asked (weighing 600 1 0x19 0x51 0x02) (cell 65535 (pos 7) 65535) (added-as.Cell (cell 65535 (pos 7) 65535))
-    ∷ asked (met 600 9) (cell 65535 (pos 0) 65535) (added-as.Refused RecordBroken)
-    ∷ asked (met 600 9) (cell 0 (pos 5) 65535) (added-as.Refused SumBeyond)
-    ∷ asked (weighing 600 1 0x90 0x05 0x00) (cell 1 (negℤ (pos largest)) 0) (added-as.Cell (cell 2 (negℤ (pos (largest + 50000000))) 0))
+-- a weight more: 65,535 is reached and not passed; 31 goes before 8, and 8 before 23; both ends of a sum
+abbrev pub weightEdges : List Asked
+weightEdges =
+    asked (pos 7) (cell 65534 (pos 0) 9) (added-as.Cell (cell 65535 (pos 7) 9))
+    ∷ asked (pos 7) (cell 65535 (pos 0) 9) (added-as.Refused CountFull)
+    ∷ asked (pos largest) (cell 1 (pos largest) 0) (added-as.Cell (cell 2 (pos (2 * largest)) 0))
+    ∷ asked (negℤ (pos largest)) (cell 1 (negℤ (pos largest)) 0) (added-as.Cell (cell 2 (negℤ (pos (2 * largest))) 0))
+    ∷ asked (pos (largest + 1)) (cell 65535 (pos 0) 0) (added-as.Refused FieldOutside)
+    ∷ asked (negsuc largest) (cell 0 (pos 0) 0) (added-as.Refused FieldOutside)
+    ∷ asked (negsuc largest) (cell 0 (pos 5) 0) (added-as.Refused SumBeyond)
     ∷ []
 
 pub record EdgesShown : Type 0 where
-  pub answered : map (λ (row : Asked). added (row .item) (row .into)) edges ≡ map (λ (row : Asked). row .answer) edges
+  pub weights : map (λ (row : Asked). withWeight (row .tenths) (row .into)) weightEdges ≡ map (λ (row : Asked). row .answer) weightEdges
+  pub refused : map withRefused (cell 65535 (pos 0) 65534 ∷ cell 65534 (pos 0) 65535 ∷ cell 0 (pos 5) 65535 ∷ [])
+      ≡ added-as.Cell (cell 65535 (pos 0) 65535) ∷ added-as.Refused CountFull ∷ added-as.Refused SumBeyond ∷ []
   pub full : numberOf CountFull ≡ 23
   pub beyond : numberOf SumBeyond ≡ 31
 

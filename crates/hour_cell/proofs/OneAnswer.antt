@@ -9,9 +9,10 @@ use Rattle.records.specs.declared.records.Record.{Record}
 use Rattle.hour_cell.specs.declared.cells.Cell.{Cell}
 use Rattle.hour_cell.specs.declared.slots.Slot.{Slot}
 use Rattle.hour_cell.specs.declared.adding.Added.{Added}
+use Rattle.hour_cell.specs.declared.counting.CountsAs.{CountsAs}
 use Rattle.hour_cell.specs.Slots.{slotOf}
-use Rattle.hour_cell.specs.Cells.{sound}
-use Rattle.hour_cell.specs.Adding.{added}
+use Rattle.hour_cell.specs.Cells.{sound, withWeight, withRefused}
+use Rattle.hour_cell.specs.Counting.{countsAs}
 
 pub slot-of-one : (time : ℕ) (a b : Slot) → a ≡ slotOf time → b ≡ slotOf time → a ≡ b
 slot-of-one time a b = one
@@ -22,5 +23,11 @@ size-of-one sum a b = one
 pub is-sound-one : (cell : Cell) (a b : Bool) → a ≡ sound cell → b ≡ sound cell → a ≡ b
 is-sound-one cell a b = one
 
-pub add-one : (item : Record) (cell : Cell) (a b : Added) → a ≡ added item cell → b ≡ added item cell → a ≡ b
-add-one item cell a b = one
+pub counts-as-one : (item : Record) (a b : CountsAs) → a ≡ countsAs item → b ≡ countsAs item → a ≡ b
+counts-as-one item a b = one
+
+pub add-weight-one : (tenths : ℤ) (cell : Cell) (a b : Added) → a ≡ withWeight tenths cell → b ≡ withWeight tenths cell → a ≡ b
+add-weight-one tenths cell a b = one
+
+pub add-refused-one : (cell : Cell) (a b : Added) → a ≡ withRefused cell → b ≡ withRefused cell → a ≡ b
+add-refused-one cell a b = one

@@ -9,6 +9,7 @@ use lib.IntN.{ℤ, pos, negsuc, negℤ, natAbs, _+ℤ_, negℤ-negℤ}
 use mir.Syntax.{w64}
 use mir.Val.{SFits}
 use borrow.Author.Tests.{leb-true}
+use Rattle.refusal.specs.declared.Refusal.{Refusal}
 use Rattle.codes.specs.declared.table.Load.the-variants.{Gross}
 use Rattle.weight.specs.declared.Reading.{Reading}
 use Rattle.weight.specs.declared.Read.{Read}
@@ -19,13 +20,13 @@ use Rattle.weight.specs.Tenths.{valueOf}
 use Rattle.weight.proofs.Sizes.{fits-64}
 use Rattle.weight.proofs.Values.{value-bound, abs-less}
 use Rattle.records.specs.declared.records.Record.{Record}
-use Rattle.records.specs.Records.{kindOf, wasMet}
+use Rattle.records.specs.Records.{kindOf, wasMet, good}
 use Rattle.records.specs.Weighings.{weightNoted}
 use Rattle.hour_cell.specs.declared.cells.Cell.{Cell}
-use Rattle.hour_cell.specs.declared.adding.CountsAs.{CountsAs}
-use Rattle.hour_cell.specs.declared.adding.CountsAs.the-variants.{Weight, Met, Nothing}
+use Rattle.hour_cell.specs.declared.counting.CountsAs.{CountsAs}
+use Rattle.hour_cell.specs.declared.counting.CountsAs.the-variants.{Weight, Met, Nothing, Refused}
 use Rattle.hour_cell.specs.Cells.{sound}
-use Rattle.hour_cell.specs.Adding.{byValue, byReading, byNoted, countsAs}
+use Rattle.hour_cell.specs.Counting.{byValue, byReading, byNoted, countsAs}
 
 abs-neg : (z : ℤ) → natAbs (negℤ z) ≡ natAbs z
 abs-neg (pos zero) = refl
@@ -56,38 +57,41 @@ data Small : CountsAs → Type 0 where
   weight : {tenths : ℤ} → natAbs tenths ≤ 9999990000000 → Small (Weight tenths)
   met : Small Met
   nothing : Small Nothing
+  refused : {why : Refusal} → Small (Refused why)
 
 by-value : (reading : Reading) (value : Value) → valueOf reading ≡ value → Small (byValue value)
 by-value reading (value-as.Tenths tenths) e = weight (value-bound reading tenths e)
-by-value reading (value-as.Refused why) e = nothing
+by-value reading (value-as.Refused why) e = refused
 
 by-test : (test : Bool) (there other : CountsAs) → Small there → Small other → Small (cond test there other)
 by-test true there other h k = h
 by-test false there other h k = k
 
-by-reading : (reading : Reading) → Small (byReading reading)
+by-reading : (kind : ℕ) (reading : Reading) → Small (byReading kind reading)
 unfolding byReading
-by-reading reading = by-test (reading .settled && not (reading .overload)) _ _ (by-value reading (valueOf reading) refl) nothing
+by-reading kind reading =
+    by-test (eqb kind (kindOf Gross) && reading .settled && not (reading .overload)) _ _ (by-value reading (valueOf reading) refl) nothing
 
-by-noted : (read : Read) → Small (byNoted read)
-by-noted (read-as.Good reading) = by-reading reading
-by-noted (read-as.Refused why) = nothing
+by-noted : (kind : ℕ) (read : Read) → Small (byNoted kind read)
+by-noted kind (read-as.Good reading) = by-reading kind reading
+by-noted kind (read-as.Refused why) = refused
 
 counts-small : (item : Record) → Small (countsAs item)
 unfolding countsAs
-counts-small item =
-    by-test (wasMet item) _ _ met (by-test (eqb (item .kind) (kindOf Gross)) _ _ (by-noted (weightNoted item)) nothing)
+counts-small item = by-test (good item) _ _ (by-test (wasMet item) _ _ met (by-noted (item .kind) (weightNoted item))) refused
 
 sizeIn : CountsAs → ℕ
 sizeIn (Weight tenths) = natAbs tenths
 sizeIn Met = 0
 sizeIn Nothing = 0
+sizeIn (Refused why) = 0
 
 small-within : {counts : CountsAs} → Small counts → sizeIn counts ≤ 9999990000000
 unfolding sizeIn
 small-within (weight h) = h
 small-within met = omega arith
 small-within nothing = omega arith
+small-within refused = omega arith
 
 pub counts-size : (item : Record) (tenths : ℤ) → countsAs item ≡ Weight tenths → natAbs tenths ≤ 9999990000000
 unfolding sizeIn

@@ -1,3 +1,3 @@
 pub mod Slots
 pub mod Cells
-pub mod Adding
+pub mod Counting

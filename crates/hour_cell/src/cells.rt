@@ -4,10 +4,10 @@ ghost use lib.IntN.{natAbs};
 ghost use Rattle.hour_cell.specs.Cells.{sound};
 
 // The largest value of a weight, in tenths of a milligram.
-const LARGEST: u64 = 9_999_990_000_000;
+pub(crate) const LARGEST: u64 = 9_999_990_000_000;
 
-// What was heard in an hour of a weekday. Where the count of weights is 0 nothing was weighed, and the sum says nothing: `hour_mean` answers "no
-// readings" then.
+// What was noted in an hour of a weekday. Where the count of weights is 0 no weight was heard that counts, and the sum says nothing: `hour_mean`
+// answers "no readings" then. Lorries may have stood there: `refused` tells what came and could not be read, and silence leaves no record.
 pub struct Cell {
     pub weights: u16, // settled gross weights without overload
     pub refused: u16, // records of a refusal met on the line

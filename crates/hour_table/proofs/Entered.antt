@@ -1,30 +1,22 @@
--- Shown: what the tests of `enter` lead to is what the definition answers there.
+-- Shown: what the tests of `enter` and `fill` lead to is what the definitions answer there.
 -- Why: each answer stands behind the tests that come before it in the definition.
-use mathlib.Core.Path.{_≡_}
+use mathlib.Core.Path.{_≡_, ap}
 use mathlib.Core.Bool.{true, false}
-use Rattle.refusal.specs.declared.Refusal.{Refusal}
 use Rattle.refusal.specs.declared.Refusal.the-variants.{SumBeyond}
-use Rattle.refusal.specs.declared.Verdict.the-variants.{Good}
 use Rattle.records.specs.declared.records.Record.{Record}
-use Rattle.hour_cell.specs.declared.cells.Cell.{Cell}
-use Rattle.hour_cell.specs.declared.adding.Added.the-variants as added-as
+use Rattle.hour_cell.specs.declared.adding.Added.{Added}
+use Rattle.hour_cell.specs.declared.counting.CountsAs.{CountsAs}
 use Rattle.hour_cell.specs.declared.slots.Slot.{Slot}
 use Rattle.hour_cell.specs.Slots.{slotOf}
-use Rattle.hour_cell.specs.Adding.{added}
-use Rattle.hour_table.specs.Tables.{Table, cellAt, withCell, soundTable}
-use Rattle.hour_table.specs.Filling.{stays, put, entered}
+use Rattle.hour_cell.specs.Counting.{countsAs}
+use Rattle.hour_table.specs.Tables.{Table, soundTable}
+use Rattle.hour_table.specs.Filling.{stays, replacedBy, putAs, put, entered}
 
 module _ (item : Record) (table : Table) where
-  -- with the slot as it was found
-  module _ (slot : Slot) (of : slot ≡ slotOf (item .time)) where
-    pub put-refused : {why : Refusal} → added item (cellAt table slot) ≡ added-as.Refused why → stays table why ≡ put item table
-    unfolding put
-    put-refused e = rw (← of, e)
-
-    pub put-cell : {cell : Cell} → added item (cellAt table slot) ≡ added-as.Cell cell
-        → record { table = withCell table slot cell; records = 1; verdict = Good } ≡ put item table
-    unfolding put
-    put-cell e = rw (← of, e)
+  -- by what the record counts as, with the slot as it was found
+  pub put-as : {slot : Slot} {counts : CountsAs} → slot ≡ slotOf (item .time) → countsAs item ≡ counts → putAs counts slot table ≡ put item table
+  unfolding put
+  put-as of e = rw (of, e)
 
   pub beyond : soundTable table ≡ false → stays table SumBeyond ≡ entered item table
   unfolding entered
@@ -33,3 +25,7 @@ module _ (item : Record) (table : Table) where
   pub put-entered : soundTable table ≡ true → put item table ≡ entered item table
   unfolding entered
   put-entered s = rw s
+
+-- the cell as it was answered
+pub replaced-by : {added told : Added} (slot : Slot) (table : Table) → told ≡ added → replacedBy told slot table ≡ replacedBy added slot table
+replaced-by slot table e = ap (λ (a : Added). replacedBy a slot table) e

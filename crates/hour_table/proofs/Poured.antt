@@ -1,8 +1,8 @@
 -- Shown: what is left of a log from a place, poured into the cells as they are, with the records that went in before, is the same at every place of the
 -- loop; a step from a place goes on in the log.
 -- Why: a step tells the first of the records that are left, or how the log ends there.
-use Prim.Native.Nat.{ℕ, _+_, _-_, _≤_}
-use mathlib.Core.Path.{_≡_, refl, sym}
+use Prim.Native.Nat.{ℕ, _+_, _-_, _/_, _≤_}
+use mathlib.Core.Path.{_≡_, _∙_, refl, sym, ap}
 use mathlib.Core.Bool.{Bool, true, false, cond}
 use mathlib.Core.List.{List, [], _∷_}
 use native.Mathlib.Omega.{arith}
@@ -24,6 +24,31 @@ use Rattle.records.proofs.WholeLog.{steps-whole, steps-one}
 use Rattle.hour_table.specs.declared.filled.Filled.{Filled}
 use Rattle.hour_table.specs.Tables.{Table, soundTable}
 use Rattle.hour_table.specs.Filling.{stays, put, poured, filledFrom}
+
+-- ---- a step goes on in the log
+
+by-read : (read : RecordRead) (place next : ℕ) (item : Record) → entered read (place + 20) ≡ stepped-as.Record item next → next ≡ place + 20
+by-read (record-read-as.Record there) place next item e = cc
+by-read (record-read-as.Refused why) place next item e = let clash : _≡_ {A = ℕ} 0 1 = cc in omega arith
+
+module _ (log : List ℕ) (place next : ℕ) (item : Record) where
+  by-left : (few : Bool) → ltb (length log - place) 20 ≡ few
+      → cond few (stepped-as.Refused LogLeftOver) (entered (readRecord (take 20 (drop place log))) (place + 20)) ≡ stepped-as.Record item next
+      → (next ≡ place + 20) × (20 ≤ length log - place)
+  by-left true few e = let clash : _≡_ {A = ℕ} 0 1 = cc in absurd (omega arith)
+  by-left false few e = (by-read (readRecord (take 20 (drop place log))) place next item e, ltb-false _ _ few)
+
+  by-place : (past : Bool) → leb (length log) place ≡ past
+      → cond past stepped-as.End (cond (ltb (length log - place) 20) (stepped-as.Refused LogLeftOver) (entered (readRecord (take 20 (drop place log))) (place + 20))) ≡ stepped-as.Record item next
+      → (next ≡ place + 20) × (20 ≤ length log - place)
+  by-place true past e = let clash : _≡_ {A = ℕ} 0 1 = cc in absurd (omega arith)
+  by-place false past e = by-left (ltb (length log - place) 20) refl e
+
+  pub step-goes : stepped log place ≡ stepped-as.Record item next → (next ≡ place + 20) × (20 ≤ length log - place)
+  unfolding stepped
+  step-goes e = by-place (leb (length log) place) refl e
+
+-- ---- the rest of a log
 
 -- with the records that went in before
 abbrev after : ℕ → Filled → Filled
@@ -81,34 +106,20 @@ module _ (log : List ℕ) (place : ℕ) where
       unfolding fromHere poured
       at-refusal {why} p = rw (rest-goes e, ← p) (nothing-more (Refused why))
 
-      pub at-record : {further : Table} → record { table = further; records = 1; verdict = Good } ≡ put item cells
+      at-next : {further : Table} → record { table = further; records = 1; verdict = Good } ≡ put item cells
           → fromHere log (count + 1) next further ≡ fromHere log count place cells
       unfolding fromHere poured
-      at-record {further} p = rw (rest-goes e, ← p) (λ i. record {
+      at-next {further} p = rw (rest-goes e, ← p) (λ i. record {
         table = ofLog (wholeLog (drop next log)) further .table;
         records = add-assoc count 1 (ofLog (wholeLog (drop next log)) further .records) i;
         verdict = ofLog (wholeLog (drop next log)) further .verdict;
       })
 
--- ---- a step goes on in the log
+-- as many records went in before a place as have their bytes there
+module _ (log : List ℕ) (place : ℕ) (cells : Table) {item : Record} {next : ℕ} (e : stepped log place ≡ stepped-as.Record item next) where
+  one-more : next / 20 ≡ place / 20 + 1
+  one-more = omega (arith, step-goes log place next item e .0)
 
-by-read : (read : RecordRead) (place next : ℕ) (item : Record) → entered read (place + 20) ≡ stepped-as.Record item next → next ≡ place + 20
-by-read (record-read-as.Record there) place next item e = cc
-by-read (record-read-as.Refused why) place next item e = let clash : _≡_ {A = ℕ} 0 1 = cc in omega arith
-
-module _ (log : List ℕ) (place next : ℕ) (item : Record) where
-  by-left : (few : Bool) → ltb (length log - place) 20 ≡ few
-      → cond few (stepped-as.Refused LogLeftOver) (entered (readRecord (take 20 (drop place log))) (place + 20)) ≡ stepped-as.Record item next
-      → (next ≡ place + 20) × (20 ≤ length log - place)
-  by-left true few e = let clash : _≡_ {A = ℕ} 0 1 = cc in absurd (omega arith)
-  by-left false few e = (by-read (readRecord (take 20 (drop place log))) place next item e, ltb-false _ _ few)
-
-  by-place : (past : Bool) → leb (length log) place ≡ past
-      → cond past stepped-as.End (cond (ltb (length log - place) 20) (stepped-as.Refused LogLeftOver) (entered (readRecord (take 20 (drop place log))) (place + 20))) ≡ stepped-as.Record item next
-      → (next ≡ place + 20) × (20 ≤ length log - place)
-  by-place true past e = let clash : _≡_ {A = ℕ} 0 1 = cc in absurd (omega arith)
-  by-place false past e = by-left (ltb (length log - place) 20) refl e
-
-  pub step-goes : stepped log place ≡ stepped-as.Record item next → (next ≡ place + 20) × (20 ≤ length log - place)
-  unfolding stepped
-  step-goes e = by-place (leb (length log) place) refl e
+  pub at-record : {further : Table} → record { table = further; records = 1; verdict = Good } ≡ put item cells
+      → fromHere log (next / 20) next further ≡ fromHere log (place / 20) place cells
+  at-record {further} p = ap (λ (n : ℕ). fromHere log n next further) one-more ∙ at-next log place (place / 20) cells e p

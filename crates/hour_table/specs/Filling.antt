@@ -13,7 +13,10 @@ use Rattle.hour_cell.specs.declared.adding.Added.{Added}
 use Rattle.hour_cell.specs.declared.adding.Added.the-variants as added-as
 use Rattle.hour_cell.specs.declared.slots.Slot.{Slot}
 use Rattle.hour_cell.specs.Slots.{slotOf}
-use Rattle.hour_cell.specs.Adding.{added}
+use Rattle.hour_cell.specs.declared.counting.CountsAs.{CountsAs}
+use Rattle.hour_cell.specs.declared.counting.CountsAs.the-variants as counts-as
+use Rattle.hour_cell.specs.Cells.{withWeight, withRefused}
+use Rattle.hour_cell.specs.Counting.{countsAs}
 use Rattle.hour_table.specs.declared.filled.Filled.{Filled}
 use Rattle.hour_table.specs.Tables.{Table, cellAt, withCell, soundTable}
 
@@ -25,14 +28,21 @@ tableIn filled = filled .table
 abbrev pub stays : Table → Refusal → Filled
 stays table why = record { table = table; records = 0; verdict = Refused why }
 
--- the record's cell replaced, or the table as it was
+-- a cell replaced, or the table as it was
 abbrev pub replacedBy : Added → Slot → Table → Filled
 replacedBy (added-as.Cell cell) slot table = record { table = withCell table slot cell; records = 1; verdict = Good }
 replacedBy (added-as.Refused why) slot table = stays table why
 
+-- by what a record counts as: what counts for nothing changes no cell and has gone in
+abbrev pub putAs : CountsAs → Slot → Table → Filled
+putAs (counts-as.Weight tenths) slot table = replacedBy (withWeight tenths (cellAt table slot)) slot table
+putAs counts-as.Met slot table = replacedBy (withRefused (cellAt table slot)) slot table
+putAs counts-as.Nothing slot table = record { table = table; records = 1; verdict = Good }
+putAs (counts-as.Refused why) slot table = stays table why
+
 -- a record into the cell of its time
 unfoldable pub put : Record → Table → Filled
-put item table = replacedBy (added item (cellAt table (slotOf (item .time)))) (slotOf (item .time)) table
+put item table = putAs (countsAs item) (slotOf (item .time)) table
 
 -- one record into a lent table: "31 first"
 unfoldable pub entered : Record → Table → Filled

@@ -39,11 +39,15 @@ fn signed_by(bits: u64) -> i64 {
     -below - 1
 }
 
+pub(crate) fn take_signed() -> i64 {
+    signed_by(take_long())
+}
+
 pub(crate) fn take_cell() -> Cell {
     Cell {
         weights: take_half(),
         refused: take_half(),
-        sum: signed_by(take_long()),
+        sum: take_signed(),
     }
 }
 

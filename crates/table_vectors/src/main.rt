@@ -9,8 +9,14 @@ use given::take_cell;
 use given::take_half;
 use given::take_long;
 use given::take_record;
+use given::take_signed;
 use given::take_table;
-use hour_cell::add;
+use hour_cell::Added;
+use hour_cell::Cell;
+use hour_cell::CountsAs;
+use hour_cell::add_refused;
+use hour_cell::add_weight;
+use hour_cell::counts_as;
 use hour_cell::is_sound;
 use hour_cell::slot_of;
 use hour_mean::mean_of;
@@ -18,6 +24,8 @@ use hour_table::enter;
 use hour_table::fill;
 use libc::STDIN_FILENO;
 use libc::STDOUT_FILENO;
+use records::Record;
+use refusal::Refusal;
 use words::say_added;
 use words::say_filled;
 use words::say_mean;
@@ -38,10 +46,28 @@ fn take_length() -> usize
     length
 }
 
-// A record goes in ahead of its cell or table, as it is handed in.
-fn tell_add() {
+// One record into one cell, as `enter` does it with the cell of its slot.
+fn added(item: Record, cell: Cell) -> Added {
+    if !is_sound(cell) {
+        return Added::Refused(Refusal::SumBeyond);
+    }
+    match counts_as(item) {
+        CountsAs::Weight(tenths) => add_weight(tenths, cell),
+        CountsAs::Met => add_refused(cell),
+        CountsAs::Nothing => Added::Cell(cell),
+        CountsAs::Refused(why) => Added::Refused(why),
+    }
+}
+
+// A record or a value stands ahead of its cell or table, as it is handed in.
+fn tell_added() {
     let item = take_record();
-    say_added(add(item, take_cell()))
+    say_added(added(item, take_cell()))
+}
+
+fn tell_add_weight() {
+    let tenths = take_signed();
+    say_added(add_weight(tenths, take_cell()))
 }
 
 fn tell_enter() {
@@ -54,10 +80,12 @@ fn tell(function: u8, text: &[u8]) {
     match function {
         1 => say_slot(slot_of(take_long())),
         2 => say_truth(is_sound(take_cell())),
-        3 => tell_add(),
+        3 => tell_added(),
         4 => tell_enter(),
         5 => say_filled(fill(text, take_table())),
-        _ => say_mean(mean_of(take_cell())),
+        6 => say_mean(mean_of(take_cell())),
+        7 => tell_add_weight(),
+        _ => say_added(add_refused(take_cell())),
     }
 }
 
