@@ -201,7 +201,7 @@ typedef struct QuayMessage {
  * Their weight bytes are FF, which read as no weight. Test `kind` before you ask for a weight. A weighing becomes a weight as
  * QuayWeight weight = {item.w0, item.w1, item.w2, item.status, item.family}; the four parts of before still compile, and say plain. */
 typedef struct QuayRecord {
-    uint64_t time;
+    uint64_t time;      /* seconds, as the caller gives them. The weekday and hour table of the Rattle library takes 0 for a Monday midnight */
     uint32_t serial;
     uint8_t kind;
     uint8_t address;

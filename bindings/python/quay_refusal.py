@@ -22,7 +22,7 @@ MEANINGS: Dict[int, str] = {
     21: "fewer bytes than length and check of a parcel scale's message need",
     22: "check of a parcel scale's message wrong",
     23: 'a count of the weekday and hour table would pass 65,535',
-    31: 'sum of a lent cell, sign aside, beyond its count times 9,999,990,000,000',
+    31: 'sum of a cell of that table, sign aside, beyond its count of weights times 9,999,990,000,000',
 }
 
 

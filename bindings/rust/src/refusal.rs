@@ -97,8 +97,8 @@ impl Refusal {
             Refusal::HeaderWrong => "the header of the parcel message is wrong",
             Refusal::BytesMissing => "bytes of the parcel message are missing",
             Refusal::ParcelCheckWrong => "the check of the parcel message is wrong",
-            Refusal::CountFull => "a count of the table would pass 65,535",
-            Refusal::SumBeyond => "the sum of a cell is beyond what its count allows",
+            Refusal::CountFull => "a count of the weekday and hour table would pass 65,535",
+            Refusal::SumBeyond => "a cell of the weekday and hour table has a sum beyond what its count of weights allows",
         }
     }
 }
