@@ -26,10 +26,10 @@ use Rattle.hour_table.specs.Filling.{stays, put, entered, followed, poured, fil
 use Rattle.hour_mean.specs.declared.Mean.the-variants as mean-as
 use Rattle.hour_mean.specs.Means.{lowest, meanOf}
 use Rattle.demands.specs.Tables.{cellOf, wentIn}
-use Rattle.demands.specs.LentTables.{SevenByTwentyFour, ShapeKept, Holds, FilledFurther, BeyondFirst, AnyCellBeyond, NoCellBeyond, KeptSound, StaysSound, MeansOfSound, HeldTogether, NothingLostOfLent, Room, Passes, LentGoesInWhole, StopsOnlyFull, FullOnlyThere, CountsNeverPass, NoMoreThanThere, BrokenIsRefused, LogOfOne, RecordByRecord, StaysAsBefore}
+use Rattle.demands.specs.LentTables.{SevenByTwentyFour, ShapeKept, Holds, FilledFurther, BeyondFirst, AnyCellBeyond, NoCellBeyond, KeptSound, StaysSound, MeansOfSound, HeldTogether, NothingLostOfLent, Room, Passes, LentGoesInWhole, StopsOnlyFull, FullOnlyThere, CountsNeverPass, NoMoreThanThere, BrokenIsRefused, OtherCellsStay, LogOfOne, RecordByRecord, StaysAsBefore}
 use Rattle.demands.proofs.TableCells.{empty-seven}
 use Rattle.demands.proofs.TableSound.{cell-sound, empty-is-sound, all-sound, beyond-unsound, not-beyond-sound}
-use Rattle.demands.proofs.TableFilling.{holds-nothing, Poured, pours, put-alone, poured-seven, poured-holds, poured-few, poured-again}
+use Rattle.demands.proofs.TableFilling.{holds-nothing, Poured, pours, put-alone, poured-seven, poured-holds, alone-elsewhere, poured-few, poured-again}
 use Rattle.demands.proofs.TableLogs.{orderly, not-at-end, cut}
 use Rattle.demands.proofs.TableLimits.{poured-sound, poured-stopped, poured-whole, poured-full, poured-room}
 use Rattle.demands.proofs.TableTotals.{together-nothing, poured-together}
@@ -166,6 +166,12 @@ broken-is-refused item table bad s = rw (s, bad)
 log-alone : (item : Record) → good item ≡ true → item .time < 256 ^ 8 → wholeLog (bytesOfRecord item) ≡ alone item
 unfolding bytesOfLog bytesOfRecord lowBytes
 log-alone item is-good time = log-back (more is-good time none)
+
+pub other-cells-stay : OtherCellsStay
+other-cells-stay item table weekday hour seven elsewhere =
+    rw (record-lent item table)
+    (by-soundness (alone item) table (λ (filled : Filled). cellOf (filled .table) weekday hour ≡ cellOf table weekday hour)
+    (alone-elsewhere (steps (alone item) table) seven weekday hour elsewhere) refl)
 
 pub log-of-one : LogOfOne
 log-of-one item table is-good time =

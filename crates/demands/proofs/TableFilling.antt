@@ -204,6 +204,12 @@ poured-holds (goes {item} {items} {table} {after} {rest} e more) seven weekday h
     holds-then weekday hour item (take (rest .records) items) (cellOf table weekday hour) _ (cellOf (rest .table) weekday hour) (one-in item table seven after e weekday hour)
     (poured-holds more (next-seven item table seven after) weekday hour)
 
+-- one record leaves every cell as it was but its own
+pub alone-elsewhere : {item : Record} {table : Table} {filled : Filled} → Poured Good (item ∷ []) table filled → SevenByTwentyFour table → (weekday hour : ℕ)
+    → falls weekday hour item ≡ false → cellOf (filled .table) weekday hour ≡ cellOf table weekday hour
+alone-elsewhere (stops e) seven weekday hour elsewhere = refl
+alone-elsewhere (goes {item} {table = table} {after = after} e ends) seven weekday hour elsewhere = other-cell item table seven after weekday hour elsewhere
+
 pub poured-below : {ending : Verdict} {items : List Record} {table : Table} {filled : Filled} → Poured ending items table filled → SevenByTwentyFour table → (weekday hour : ℕ)
     → StaysFew (cellOf table weekday hour) (cellOf (filled .table) weekday hour)
 poured-below (ends {table}) seven weekday hour = few-same (cellOf table weekday hour)

@@ -1,11 +1,12 @@
 -- Shown: a table filled from a log holds in each cell, and in all together, what a person counts in the records that went in, and when all go in.
 -- Why: it is the lent table in which nothing was heard, so each cell holds nothing but what was counted.
-use Prim.Native.Nat.{ℕ, _/_, _%_, _<_}
+use Prim.Native.Nat.{ℕ, _+_, _*_, _/_, _%_, _<_}
 use mathlib.Core.Path.{_≡_, _∙_, refl, sym, ap}
 use mathlib.Core.Bool.{Bool, true, false, cond, and-eq-true-iff}
 use mathlib.Core.List.{List, []}
 use native.Mathlib.Omega.{arith}
 use borrow.Author.Tests.{eqb-true, eq-eqb}
+use lib.Arith.{digits-div, digits-mod}
 use lib.Dec.{eqb}
 use lib.IntN.{+ℤ-idl}
 use lib.Seq.{take-length}
@@ -18,7 +19,7 @@ use Rattle.hour_table.specs.Tables.{emptyTable}
 use Rattle.hour_table.specs.Filling.{filledFrom}
 use Rattle.hour_mean.specs.declared.Mean.the-variants as mean-as
 use Rattle.hour_mean.specs.Means.{lowest, meanOf}
-use Rattle.demands.specs.Tables.{howMany, cellOf, CellsAreCounted, Fits, GoesInWhole, WholeOnlyWhereItFits, NotInTwoCells, EachHasACell, NothingHeard, SomethingHeard, AllAreCounted}
+use Rattle.demands.specs.Tables.{howMany, cellOf, CellsAreCounted, Fits, GoesInWhole, WholeOnlyWhereItFits, ByTheCalendar, NotInTwoCells, EachHasACell, NothingHeard, SomethingHeard, AllAreCounted}
 use Rattle.demands.specs.LentTables.{Room}
 use Rattle.demands.proofs.TableCells.{empty-seven, empty-cell}
 use Rattle.demands.proofs.TableSound.{empty-is-sound, cell-sound}
@@ -64,6 +65,16 @@ whole-only-where-it-fits log gone weekday hour w h =
     fits-there (wholeLog log .records) weekday hour w h (rw (gone .all, take-length (wholeLog log .records)) at room)
 
 -- ---- one cell for each record
+
+-- the time over a day's seconds is the whole days, and over an hour's the whole hours; behind the weeks stand the weekday and the hour
+pub by-the-calendar : ByTheCalendar
+by-the-calendar item weeks weekday hour seconds w h s e =
+    let days : item .time ≡ (weeks * 7 + weekday) * 86400 + (hour * 3600 + seconds) = omega (arith, e) in
+    let hours : item .time ≡ ((weeks * 7 + weekday) * 24 + hour) * 3600 + seconds = omega (arith, e) in
+    let within : hour * 3600 + seconds < 86400 = omega (arith, h, s) in
+    let day : item .time / 86400 % 7 ≡ weekday = rw (days, digits-div (weeks * 7 + weekday) within) (digits-mod weeks w) in
+    let at : item .time / 3600 % 24 ≡ hour = rw (hours, digits-div ((weeks * 7 + weekday) * 24 + hour) s) (digits-mod (weeks * 7 + weekday) h) in
+    rw (eq-eqb (item .time / 86400 % 7) weekday day, eq-eqb (item .time / 3600 % 24) hour at)
 
 pub not-in-two-cells : NotInTwoCells
 not-in-two-cells item weekday hour weekday′ hour′ one other =

@@ -20,7 +20,7 @@ use Rattle.hour_table.specs.Tables.{Table, emptyTable, soundTable}
 use Rattle.hour_table.specs.Filling.{stays, entered, followed, filledFrom}
 use Rattle.hour_mean.specs.declared.Mean.the-variants as mean-as
 use Rattle.hour_mean.specs.Means.{meanOf}
-use Rattle.demands.specs.Tables.{settledGross, refusedRecord, weightIn, refusedIn, howMany, sumOf, cellOf, wentIn, GoneIn, overTable}
+use Rattle.demands.specs.Tables.{settledGross, refusedRecord, falls, weightIn, refusedIn, howMany, sumOf, cellOf, wentIn, GoneIn, overTable}
 
 -- ---- "The table is seven rows of twenty-four cells"
 
@@ -139,6 +139,12 @@ NoMoreThanThere = (log : List ℕ) (table : Table) → filledFrom log table .rec
 -- a record that breaks a rule is 11, behind 31
 abbrev pub BrokenIsRefused : Type 0
 BrokenIsRefused = (item : Record) (table : Table) → good item ≡ false → soundTable table ≡ true → entered item table ≡ stays table RecordBroken
+
+-- a record changes the cell of its own weekday and hour, and no other
+abbrev pub OtherCellsStay : Type 0
+OtherCellsStay =
+    (item : Record) (table : Table) (weekday hour : ℕ) → SevenByTwentyFour table → falls weekday hour item ≡ false
+    → cellOf (entered item table .table) weekday hour ≡ cellOf table weekday hour
 
 -- a good one, its time of 64 bits, does what the log of its 20 bytes does: all that is said here of logs is said of it
 abbrev pub LogOfOne : Type 0

@@ -96,7 +96,13 @@ WholeOnlyWhereItFits =
     (log : List ℕ) → GoneIn log (filledFrom log emptyTable)
     → (weekday hour : ℕ) → weekday < 7 → hour < 24 → Fits (wholeLog log .records) weekday hour
 
--- ---- "no record counts in two cells", and each has one
+-- ---- "no record counts in two cells", and each has one: cells are counted by `falls`, and a record changes no other cell (LentTables, OtherCellsStay)
+
+-- by the calendar: whole weeks since "a Monday midnight", the whole days and hours since, and the seconds of that hour
+abbrev pub ByTheCalendar : Type 0
+ByTheCalendar =
+    (item : Record) (weeks weekday hour seconds : ℕ) → weekday < 7 → hour < 24 → seconds < 3600
+    → item .time ≡ weeks * 604800 + weekday * 86400 + hour * 3600 + seconds → falls weekday hour item ≡ true
 
 pub record Same (weekday hour weekday′ hour′ : ℕ) : Type 0 where
   pub weekday-same : weekday ≡ weekday′

@@ -118,6 +118,10 @@ nearlyFull = tableOf (cell 65534 (pos 7) 0) nothing nothing
 abbrev pub full : Table
 full = tableOf (cell 65535 (pos 251000007) 0) nothing nothing
 
+-- full in Monday's second hour: a weight of that hour is refused by 23, and one of Tuesday's first hour goes in
+abbrev pub fullSecond : Table
+fullSecond = tableOf nothing (cell 65535 (pos 7) 0) nothing
+
 -- lent with a sum beyond its count in Sunday's last hour: 31, whatever the log or the record
 abbrev pub beyondLast : Table
 beyondLast = tableOf nothing nothing (cell 1 (pos 9999990000001) 0)
@@ -127,6 +131,8 @@ pub record LentAtTheEdges : Type 0 where
   pub stops-ahead : filledFrom (bytesOfLog (smallLog ++ (broken ∷ []))) nearlyFull ≡ filledBy full 1 (Refused CountFull)
   pub enters : entered (weighing 600 1 0x11 0x51 0x02) nearlyFull ≡ filledBy full 1 Good
   pub full-now : entered (weighing 600 1 0x11 0x51 0x02) full ≡ filledBy full 0 (Refused CountFull)
+  pub second-hour : entered (weighing 3600 1 0x11 0x51 0x02) fullSecond ≡ filledBy fullSecond 0 (Refused CountFull)
+  pub second-day : entered (weighing 86400 1 0x10 0x00 0x00) fullSecond .verdict ≡ Good
   pub net-is-good : entered (weighing 600 2 0x11 0x51 0x02) full ≡ filledBy full 1 Good
   pub broken-is-refused : entered broken full ≡ filledBy full 0 (Refused RecordBroken)
   pub beyond-empty : filledFrom [] beyondLast ≡ filledBy beyondLast 0 (Refused SumBeyond)
@@ -182,7 +188,7 @@ pub record Asked : Type 0 where
 abbrev pub asked : ℤ → Cell → Added → Asked
 asked tenths into answer = record { tenths = tenths; into = into; answer = answer }
 
--- a weight more: 65,535 is reached and not passed; 31 goes before 8, and 8 before 23; both ends of a sum
+-- a weight more: 65,535 is reached and not passed; 31 goes before 8 and before 23, and 8 before 23; both ends of a sum
 abbrev pub weightEdges : List Asked
 weightEdges =
     asked (pos 7) (cell 65534 (pos 0) 9) (added-as.Cell (cell 65535 (pos 7) 9))
@@ -192,12 +198,13 @@ weightEdges =
     ∷ asked (pos (largest + 1)) (cell 65535 (pos 0) 0) (added-as.Refused FieldOutside)
     ∷ asked (negsuc largest) (cell 0 (pos 0) 0) (added-as.Refused FieldOutside)
     ∷ asked (negsuc largest) (cell 0 (pos 5) 0) (added-as.Refused SumBeyond)
+    ∷ asked (pos 7) (cell 65535 (pos (65535 * largest + 1)) 0) (added-as.Refused SumBeyond)
     ∷ []
 
 pub record EdgesShown : Type 0 where
   pub weights : map (λ (row : Asked). withWeight (row .tenths) (row .into)) weightEdges ≡ map (λ (row : Asked). row .answer) weightEdges
-  pub refused : map withRefused (cell 65535 (pos 0) 65534 ∷ cell 65534 (pos 0) 65535 ∷ cell 0 (pos 5) 65535 ∷ [])
-      ≡ added-as.Cell (cell 65535 (pos 0) 65535) ∷ added-as.Refused CountFull ∷ added-as.Refused SumBeyond ∷ []
+  pub refused : map withRefused (cell 65535 (negsuc 6) 65534 ∷ cell 65534 (pos 0) 65535 ∷ cell 0 (pos 5) 65535 ∷ [])
+      ≡ added-as.Cell (cell 65535 (negsuc 6) 65535) ∷ added-as.Refused CountFull ∷ added-as.Refused SumBeyond ∷ []
   pub full : numberOf CountFull ≡ 23
   pub beyond : numberOf SumBeyond ≡ 31
 

@@ -17,9 +17,9 @@ ghost use Rattle.hour_cell.specs.Counting.{byReading, countsAs};
 
 pub enum CountsAs {
     Weight(i64), // a settled gross weight without overload: its value in tenths of a milligram
-    Met, // a refusal met on the line
+    Met, // a refusal met on the line: a refused record of its cell (`add_refused`)
     Nothing, // a net, unsettled or overloaded weight
-    Refused(Refusal), // 11: the record breaks a rule
+    Refused(Refusal), // 11: the record breaks a rule and counts in no cell
 }
 
 // A weighing by its kind and its reading. One that does not count is not asked for its value.

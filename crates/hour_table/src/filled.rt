@@ -4,7 +4,8 @@ use refusal::Verdict;
 ghost use mathlib.Core.Path.{_≡_};
 ghost use Rattle.hour_table.specs.Filling.{tableIn};
 
-// The table after the records that went in, how many they are, and the refusal that stopped it, or Good.
+// The table after the records that went in, how many they are, and the refusal that stopped it, or Good. Look at the verdict first: behind a refusal the
+// rest of the log is not in the table.
 pub struct Filled {
     pub table: [[Cell; 24]; 7],
     pub records: usize,
@@ -21,7 +22,7 @@ pub(crate) fn answer(table: [[Cell; 24]; 7], records: usize, verdict: Verdict) -
     }
 }
 
-// The table of an answer, to be filled further. Look at the verdict first: behind a refusal the rest of the log is not in it.
+// The table of an answer, to be filled further.
 pub fn table_of(filled: Filled) -> [[Cell; 24]; 7]
     ensures { λ r. ⌜ r ≡ tableIn filled ⌝ }
 {
