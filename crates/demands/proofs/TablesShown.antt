@@ -16,7 +16,7 @@ use Rattle.hour_cell.specs.Slots.{slotOf}
 use Rattle.hour_cell.specs.Cells.{sound, withWeight, withRefused}
 use Rattle.hour_cell.specs.Counting.{byReading, countsAs}
 use Rattle.hour_table.specs.Tables.{emptyTable, soundRow, soundTable}
-use Rattle.hour_table.specs.Filling.{put, entered, poured, filledFrom}
+use Rattle.hour_table.specs.Filling.{tableIn, put, entered, poured, filledFrom}
 use Rattle.hour_mean.specs.Means.{greatestUpTo, greatestCommon, lowest, meanOf}
 use Rattle.demands.specs.Tables.{howMany, sumOf}
 use Rattle.demands.specs.TablesShown.{SlotsShown, CountedByHand, SmallLogFilled, LentAtTheEdges, SoundShown, CountsShown, EdgesShown, MeansShown}
@@ -30,8 +30,8 @@ unfolding howMany sumOf
 counted-by-hand = record { first = refl; first-sum = refl; first-refused = refl; second = refl; second-refused = refl; last = refl; exchanged = refl }
 
 pub small-log-filled : SmallLogFilled
-unfolding namedIn namedOf lowFirst lowBytes familyIn familyNamed inRange readAs readOf valueOf legal bytesOfRecord recordIn addressOf goodAddress goodWeighing goodMet good makeRecord readRecord recordsOf wholeLog bytesOfLog weightNoted slotOf sound withWeight withRefused byReading countsAs emptyTable soundRow soundTable put poured filledFrom
-small-log-filled = record { silent = refl; whole = refl; left-over = refl; broken-first = refl; empty = refl }
+unfolding namedIn namedOf lowFirst lowBytes familyIn familyNamed inRange readAs readOf valueOf legal bytesOfRecord recordIn addressOf goodAddress goodWeighing goodMet good makeRecord readRecord recordsOf wholeLog bytesOfLog weightNoted slotOf sound withWeight withRefused byReading countsAs emptyTable soundRow soundTable tableIn put poured filledFrom
+small-log-filled = record { silent = refl; whole = refl; left-over = refl; broken-first = refl; empty = refl; taken = refl }
 
 pub lent-at-the-edges : LentAtTheEdges
 unfolding namedIn namedOf lowFirst lowBytes familyIn familyNamed inRange readAs readOf valueOf legal bytesOfRecord recordIn addressOf goodAddress goodWeighing goodMet good makeRecord readRecord recordsOf wholeLog bytesOfLog weightNoted slotOf sound withWeight withRefused byReading countsAs emptyTable soundRow soundTable put entered poured filledFrom

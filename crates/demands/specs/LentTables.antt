@@ -140,7 +140,7 @@ NoMoreThanThere = (log : List ℕ) (table : Table) → filledFrom log table .rec
 abbrev pub BrokenIsRefused : Type 0
 BrokenIsRefused = (item : Record) (table : Table) → good item ≡ false → soundTable table ≡ true → entered item table ≡ stays table RecordBroken
 
--- a record changes the cell of its own weekday and hour, and no other
+-- a record leaves every cell as it was but that of its own weekday and hour
 abbrev pub OtherCellsStay : Type 0
 OtherCellsStay =
     (item : Record) (table : Table) (weekday hour : ℕ) → SevenByTwentyFour table → falls weekday hour item ≡ false

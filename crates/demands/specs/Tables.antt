@@ -74,7 +74,7 @@ CellsAreCounted =
     (log : List ℕ) (weekday hour : ℕ) → weekday < 7 → hour < 24
     → IsCounted weekday hour (wentIn log (filledFrom log emptyTable)) (cellOf (filledFrom log emptyTable .table) weekday hour)
 
--- ---- "where no count passes 65,535 a whole valid log goes in whole"
+-- ---- "23 when a count would pass 65,535": where none does, a whole valid log goes in whole
 
 pub record Fits (items : List Record) (weekday hour : ℕ) : Type 0 where
   pub weights : howMany (weightIn weekday hour) items ≤ 65535
@@ -96,7 +96,7 @@ WholeOnlyWhereItFits =
     (log : List ℕ) → GoneIn log (filledFrom log emptyTable)
     → (weekday hour : ℕ) → weekday < 7 → hour < 24 → Fits (wholeLog log .records) weekday hour
 
--- ---- "no record counts in two cells", and each has one: cells are counted by `falls`, and a record changes no other cell (LentTables, OtherCellsStay)
+-- ---- no record counts in two cells, and each has one: cells are counted by `falls`, and a record changes no other cell (LentTables, OtherCellsStay)
 
 -- by the calendar: whole weeks since "a Monday midnight", the whole days and hours since, and the seconds of that hour
 abbrev pub ByTheCalendar : Type 0

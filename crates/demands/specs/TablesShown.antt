@@ -22,7 +22,7 @@ use Rattle.hour_cell.specs.Cells.{largest, sound, withWeight, withRefused}
 use Rattle.hour_cell.specs.Counting.{countsAs}
 use Rattle.hour_table.specs.declared.filled.Filled.{Filled}
 use Rattle.hour_table.specs.Tables.{Table, emptyTable}
-use Rattle.hour_table.specs.Filling.{entered, filledFrom}
+use Rattle.hour_table.specs.Filling.{tableIn, entered, filledFrom}
 use Rattle.hour_mean.specs.declared.Mean.{Mean}
 use Rattle.hour_mean.specs.declared.Mean.the-variants as mean-as
 use Rattle.hour_mean.specs.Means.{meanOf}
@@ -109,6 +109,7 @@ pub record SmallLogFilled : Type 0 where
   pub left-over : filledFrom (bytesOfLog smallLog ++ (0 ∷ [])) emptyTable ≡ filledBy smallTable 8 (Refused LogLeftOver)
   pub broken-first : filledFrom (bytesOfLog smallLog ++ (bytesOfLog (broken ∷ smallLog) ++ (0 ∷ []))) emptyTable ≡ filledBy smallTable 8 (Refused RecordBroken)
   pub empty : filledFrom [] smallTable ≡ filledBy smallTable 0 Good
+  pub taken : tableIn (filledBy smallTable 8 Good) ≡ smallTable
 
 -- lent with 65,534 weights in Monday's first hour: the first weight goes in, and 23 stops it at the second, also if the log breaks later; the refused
 -- record of the second hour does not go in
@@ -122,6 +123,17 @@ full = tableOf (cell 65535 (pos 251000007) 0) nothing nothing
 abbrev pub fullSecond : Table
 fullSecond = tableOf nothing (cell 65535 (pos 7) 0) nothing
 
+abbrev pub andTuesday : Table
+andTuesday =
+    (nothing ∷ cell 65535 (pos 7) 0 ∷ replicate 22 nothing)
+    ∷ (cell 1 (pos 251000000) 0 ∷ replicate 23 nothing)
+    ∷ silentDay
+    ∷ silentDay
+    ∷ silentDay
+    ∷ silentDay
+    ∷ silentDay
+    ∷ []
+
 -- lent with a sum beyond its count in Sunday's last hour: 31, whatever the log or the record
 abbrev pub beyondLast : Table
 beyondLast = tableOf nothing nothing (cell 1 (pos 9999990000001) 0)
@@ -132,7 +144,7 @@ pub record LentAtTheEdges : Type 0 where
   pub enters : entered (weighing 600 1 0x11 0x51 0x02) nearlyFull ≡ filledBy full 1 Good
   pub full-now : entered (weighing 600 1 0x11 0x51 0x02) full ≡ filledBy full 0 (Refused CountFull)
   pub second-hour : entered (weighing 3600 1 0x11 0x51 0x02) fullSecond ≡ filledBy fullSecond 0 (Refused CountFull)
-  pub second-day : entered (weighing 86400 1 0x10 0x00 0x00) fullSecond .verdict ≡ Good
+  pub second-day : entered (weighing 86400 1 0x11 0x51 0x02) fullSecond ≡ filledBy andTuesday 1 Good
   pub net-is-good : entered (weighing 600 2 0x11 0x51 0x02) full ≡ filledBy full 1 Good
   pub broken-is-refused : entered broken full ≡ filledBy full 0 (Refused RecordBroken)
   pub beyond-empty : filledFrom [] beyondLast ≡ filledBy beyondLast 0 (Refused SumBeyond)
