@@ -62,7 +62,8 @@ static void weighed(const unsigned char *body, int code, const unsigned char *da
     text(code == 0xC3 ? " weight gross " : " weight net ");
     address(body);
     text(data[3] & 0x80 ? " - " : " + ");
-    for (int at = 2; at >= 0; at--) two_digits(data[at]);
+    if (data[3] & 0x08) text("------"); /* an overloaded bridge has no weight */
+    else for (int at = 2; at >= 0; at--) two_digits(data[at]);
     const char marks[] = {' ', (char)('0' + (data[3] & 7)), ' ', (char)('0' + (data[3] >> 4 & 1)), ' ', (char)('0' + (data[3] >> 3 & 1))};
     memcpy(page + used, marks, sizeof marks);
     used += sizeof marks;

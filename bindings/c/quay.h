@@ -5,6 +5,9 @@
  * A record that notes a refusal (kind 3) has weight bytes FF too, although it was read and its own `refusal` is 0.
  * Test `refusal` first all the same.
  *
+ * An overloaded bridge has no weight. Its value, its kilograms and every difference with it are refused (24, after 8). What it said was heard all the
+ * same: its reading, message and record are not refused, and keep its bytes. The reading has `overload` 1 then, and its digits are no weight.
+ *
  * The functions in the archive (crates/quay_*) are proved: each for every value of every argument, under the rules below. This header is NOT
  * proved: its declarations are written by hand. The assertions at its end compare every size and every offset with the numbers of the C rules.
  * tests/host/run calls every function through it. Beyond that the declarations are as right as this text.
@@ -61,6 +64,7 @@ enum {
     QUAY_BYTES_MISSING = 21,  /* fewer bytes than the length and the check of such a message need */
     QUAY_PARCEL_CHECK_WRONG = 22, /* the check of such a message is wrong */
     QUAY_COUNT_FULL = 23,     /* a count of the weekday and hour table would pass 65,535 */
+    QUAY_OVERLOADED = 24,     /* bit 3 of CON, overload, is set: instead of a value */
     QUAY_SUM_BEYOND = 31      /* a lent cell of that table: its sum, sign aside, is beyond its count times 9,999,990,000,000 */
 };
 
@@ -68,7 +72,9 @@ enum {
  * (`parcel_scale`). libquay.a has nothing of them yet, so that no function of this header answers these three. Of the tare (A3, in grams, with its sign) 003 says: a tare of 0 takes
  * the weight that stands on the scale as tare. It does not clear the tare.
  *
- * 23 and 31 are earned by the weekday and hour table, which the Rattle library fills (`hour_table`). No function of this header answers these two either. */
+ * 23 and 31 are earned by the weekday and hour table, which the Rattle library fills (`hour_table`). No function of this header answers these two either.
+ *
+ * 24 is answered by quay_value, quay_difference and quay_kilograms alone. No line meets it, so that no event and no record of kind 3 can have it. */
 
 /* ---- numbers of the fields */
 
@@ -141,15 +147,15 @@ typedef struct QuayWeight {
 } QuayWeight;
 
 /* What a terminal shows. The marks are 0 or 1. If refused, the number, the marks and the family are all ones and the point is 0: number and point
- * together are far above any weight. */
+ * together are far above any weight. An overload is no refusal of the reading: test `overload` before you show or use the number. */
 typedef struct QuayReading {
-    uint32_t number; /* 0 to 999,999 */
+    uint32_t number; /* 0 to 999,999. Where overload is 1 it is no weight: the digits stay only so that the four bytes come back */
     uint8_t point;   /* digits after the point, 0 to 7 */
     uint8_t minus;
     uint8_t bit6;    /* what it means, the family says; 0 is no answer in plain, nor in 002 */
     uint8_t bit5;    /* what it means, the family says; 0 is no answer in plain, and in 001 the bit is no net mode */
     uint8_t settled;
-    uint8_t overload;
+    uint8_t overload; /* 1: more lies on the bridge than it can weigh, and it has no weight */
     uint8_t family;
     uint8_t refusal;
 } QuayReading;
@@ -247,19 +253,22 @@ QuayWritten quay_write_message(uint8_t role, uint8_t family, uint8_t short_addre
  * `on` are all ones, the weight is five times FF and every other field is 0. */
 QuayMessage quay_read_message(uint8_t role, uint8_t family, const uint8_t *body, size_t body_length);
 
-/* ---- weights. Refusal: 8 for a half of W0, W1 or W2 that is no decimal digit, for a family that does not exist, and for bit 6 set in family 002.
- * Otherwise CON is any byte. */
+/* ---- weights. Refusals, in this order:
+ *  - 8 for a half of W0, W1 or W2 that is no decimal digit, for a family that does not exist, and for bit 6 set in family 002. Otherwise CON is any byte.
+ *  - 24 for a weight whose overload bit (bit 3 of CON) is set, whatever its digits are, zeros too. Of the four functions quay_read_weight does not judge this. */
 
-/* The reading that four bytes show. */
+/* The reading that four bytes show. Refusal: 8. A weight with the overload bit is read, with overload 1 and its digits in `number`. Never show or use
+ * them as a weight then: ask quay_value or quay_kilograms, which refuse. */
 QuayReading quay_read_weight(QuayWeight weight);
 
-/* The value in tenths of a milligram, -9,999,990,000,000 to 9,999,990,000,000. */
+/* The value in tenths of a milligram, -9,999,990,000,000 to 9,999,990,000,000. Refusals: 8, 24, in this order. */
 QuayValue quay_value(QuayWeight weight);
 
-/* Gross less net in tenths of a milligram. It may be negative. It is refused where either weight is refused. The two may be of different families. */
+/* Gross less net in tenths of a milligram. It may be negative. The two may be of different families.
+ * Refusals: 8 of either weight, 24 of either weight, in this order. */
 QuayValue quay_difference(QuayWeight gross, QuayWeight net);
 
-/* The value in kilograms, rounded once. A weight of minus zero gives plus zero. */
+/* The value in kilograms, rounded once. A weight of minus zero gives plus zero. Refusals: 8, 24, in this order. */
 QuayKilograms quay_kilograms(QuayWeight weight);
 
 /* ---- the log */
@@ -286,9 +295,11 @@ QuayRecord quay_record_heard(uint64_t time, uint8_t role, uint8_t family, QuayEv
 /* ---- the listing */
 
 /* Writes the listing's line of an event, with its newline, as the event of that number. The event is read as a reply of a line of a family. The last
- * word of a weight's line is what bit 5 says: `net` or `gross` (000 and 002), `scale0` or `scale1` (001). A plain one has no such word. Where there
- * was no event there is no line: length 0, entry 0, no refusal. The body of a frame is the first event.kept of the lent bytes (all of them where they
- * are fewer). It is judged again, check and all. Other bytes than those that were heard list as the refusal they earn.
+ * word of a weight's line is what bit 5 says: `net` or `gross` (000 and 002), `scale0` or `scale1` (001). A plain one has no such word. The line of
+ * an overloaded weight has six hyphens, `------`, for its digits. Everything else of it is as in any weight's line, and its entry is
+ * QUAY_ENTRY_WEIGHT. Where there was no event there is no line: length 0, entry 0, no refusal. The body of a frame is the first event.kept of the
+ * lent bytes (all of them where they are fewer). It is judged again, check and all. Other bytes than those that were heard list as the refusal they
+ * earn.
  * Refusals: 8 for a family or a kind of event that does not exist, or a number of its refusal that is not 1 to 8 (then entry is 0); 9 (then entry is
  * as if the line had fitted), in this order. */
 QuayListed quay_list_event(uint64_t number, uint8_t family, QuayEvent event, const uint8_t *body, size_t body_length, uint8_t *room,

@@ -20,6 +20,10 @@ MACHINES = ('x86_64', 'AMD64')
 # The number of a family that is not plain: plain is 0, as is what nobody wrote.
 SOME_FAMILY = 2
 
+# Bit 3 of CON, and what the value of a weight that has it is refused by.
+OVERLOAD_BIT = 0x08
+OVERLOADED = 24
+
 HIGHEST_BYTE = 2**8 - 1
 HIGHEST_COUNT = 2**64 - 1
 
@@ -53,7 +57,8 @@ class QuayWeight(ctypes.Structure):
 
 
 class QuayReading(ctypes.Structure):
-    """What a terminal shows. If refused, the point is 0 and every other field is all ones."""
+    """What a terminal shows. If refused, the point is 0 and every other field but `refusal` is all ones. If `overload` is 1 it is not refused,
+    and its number is no weight."""
     _fields_ = [('number', c_uint32), ('point', c_uint8), ('minus', c_uint8), ('bit6', c_uint8), ('bit5', c_uint8),
                 ('settled', c_uint8), ('overload', c_uint8), ('family', c_uint8), ('refusal', c_uint8)]
 
@@ -173,10 +178,12 @@ def _declare(loaded: ctypes.CDLL, path: str) -> None:
 
 def _check_version(loaded: Any, path: str) -> None:
     """A library from before there were families has the same functions, with other arguments and structs: a refusal would not be seen. It does
-    not tell a family back."""
+    not tell a family back. A later one may still give an overloaded bridge a weight."""
     told = loaded.quay_read_weight(QuayWeight(family=SOME_FAMILY))
     if (told.family, told.refusal) != (SOME_FAMILY, 0):
         raise _not_loaded(path, 'it does not know the families of terminals, so it is not this version of the quay library')
+    if loaded.quay_value(QuayWeight(con=OVERLOAD_BIT, family=SOME_FAMILY)).refusal != OVERLOADED:
+        raise _not_loaded(path, 'it gives an overloaded bridge a weight, so it is not this version of the quay library')
 
 
 _loaded: Optional[ctypes.CDLL] = None

@@ -142,10 +142,13 @@ class Listed:
 
 def list_event(number: int, event: Event) -> Listed:
     """The line of an event, as the event of that number. The event is read as a reply, by its family. The body of a frame is judged again,
-    check and all: bytes that nobody heard list as the refusal they earn.
+    check and all: bytes that nobody heard list as the refusal they earn. An overloaded weight has six hyphens for its digits, and is listed as
+    a weight all the same.
 
     >>> list_event(2, Frame(wire=10, kept=7, body=bytes.fromhex('01c20500009132'), family=Family.OF_002))
     Listed(line='2 weight net 1 - 000005 1 1 0 gross\\n', entry=<Entry.WEIGHT: 1>)
+    >>> list_event(7, Frame(wire=10, kept=7, body=bytes.fromhex('01c300000618a2'), family=Family.OF_002)).line
+    '7 weight gross 1 + ------ 0 1 1 gross\\n'
     >>> list_event(3, LineRefusal(4, wire=16, kept=3)).line
     '3 refused 4\\n'
     """

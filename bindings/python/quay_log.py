@@ -28,7 +28,7 @@ NO_FAMILY = 0
 @dataclass(frozen=True)
 class Weighing:
     """A gross or net reply: kind 1 or 2. `time` is in seconds, as the caller gives it. The weight carries the family; in a record from
-    before there were families it is `Family.PLAIN`."""
+    before there were families it is `Family.PLAIN`. An overloaded weight is noted with its bytes too, although its value is refused by 24."""
     time: int
     load: Load
     address: Address
@@ -158,7 +158,8 @@ def read_log(log: Bytes) -> Log:
 
 def rows(log: Bytes) -> List[Row]:
     """The rows of a whole log, one for each record, as `pandas.DataFrame` takes them. A log that is not whole raises `LogRefused`,
-    which has the rows before the fault. Add up with `sum(min_count=1)`: if all weights are missing, pandas' plain `sum()` is 0.
+    which has the rows before the fault. Add up with `sum(min_count=1)`: if all weights are missing, pandas' plain `sum()` is 0. They are missing
+    where nothing was read, and where the bridge was overloaded.
 
     >>> rows(write_record(RefusalMet(1000, 4)))[0]['value'] is None
     True
@@ -173,6 +174,15 @@ def row_of(record: Record) -> Row:
     """A record as a row. Every row has the same keys. What a record does not have is None, which pandas shows as missing. For a
     refusal, everything but `time`, `kind` and `refusal` is None. So an unread weight is never a number.
 
+    Nor is that of an overloaded bridge: `value`, `kilograms`, `kilograms_exact` and `digits` are None, and `overload` is True beside them. It
+    is no refusal that was met: its `kind` is `gross` or `net`, its `refusal` is None, and everything else stands as in any weighing.
+
+    >>> row = row_of(Weighing(1000, Load.GROSS, Address(1), Weight.from_bytes(bytes.fromhex('00000618'), Family.OF_002)))
+    >>> row['kind'], row['overload'], row['settled'], row['refusal']
+    ('gross', True, True, None)
+    >>> row['value'], row['kilograms'], row['kilograms_exact'], row['digits']
+    (None, None, None, None)
+
     `value` is in tenths of a milligram; `sign`, `digits` and `point` are as the terminal shows them. `family` is `000`, `001` or `002`, or
     `plain` in a record from before there were families. `mode` is what bit 5 says in that family: `net`, `gross`, `scale0` or `scale1`. A
     plain record has none, and then it is None, not False.
@@ -180,12 +190,15 @@ def row_of(record: Record) -> Row:
     if isinstance(record, RefusalMet):
         return _row(record.time, 'refusal', refusal=record.number)
     reading = record.weight.reading
+    # The flag is asked, and no refusal is caught: any other one must be seen.
+    weighed = {} if reading.overload else {
+        'value': record.weight.value, 'kilograms': record.weight.kilograms, 'kilograms_exact': record.weight.kilograms_exact,
+        'digits': f'{reading.number:06}'}
     return _row(
         record.time, Load(record.load).name.lower(),
         address=record.address.short, serial=record.address.serial,
-        value=record.weight.value, kilograms=record.weight.kilograms, kilograms_exact=record.weight.kilograms_exact,
-        sign='-' if reading.minus else '+', digits=f'{reading.number:06}', point=reading.point,
-        settled=reading.settled, overload=reading.overload, family=reading.family.word, mode=reading.mode)
+        sign='-' if reading.minus else '+', point=reading.point,
+        settled=reading.settled, overload=reading.overload, family=reading.family.word, mode=reading.mode, **weighed)
 
 
 def _row(

@@ -1,6 +1,7 @@
 """Refusals: the numbers of the rules paper's list and of the requests behind it, and the exception that carries one.
 
-20 to 22 are of the parcel scales, 23 and 31 of the weekday and hour table. This module hands over neither yet.
+20 to 22 are of the parcel scales, 23 and 31 of the weekday and hour table. This module hands over neither yet. 24 is raised where the value of
+an overloaded weight is asked for. No line meets it.
 """
 from __future__ import annotations
 
@@ -22,6 +23,7 @@ MEANINGS: Dict[int, str] = {
     21: "fewer bytes than length and check of a parcel scale's message need",
     22: "check of a parcel scale's message wrong",
     23: 'a count of the weekday and hour table would pass 65,535',
+    24: 'overload, so the reading has no value',
     31: 'sum of a cell of that table, sign aside, beyond its count of weights times 9,999,990,000,000',
 }
 

@@ -16,7 +16,10 @@ WEIGHT_BYTES = 4
 @dataclass(frozen=True)
 class Reading:
     """What a terminal shows: the sign bit, the number 0 to 999,999, the digits after the point, and the flags. What bits 6 and 5 mean, the
-    family says. False is no answer in plain, nor for bit 6 in 002; bit 5 of 001 is no net mode."""
+    family says. False is no answer in plain, nor for bit 6 in 002; bit 5 of 001 is no net mode.
+
+    If `overload` is True, more lies on the bridge than it can weigh, and `number` is no weight. It stays only so that the four bytes come
+    back. Do not show or use it: ask the weight for its value, which is refused then."""
     number: int
     point: int
     minus: bool
@@ -43,6 +46,9 @@ class Weight:
     If the bytes are no weight, every question about them raises `Refused` with number 8. The answer is never 0 and never another number.
     Bit 6 of CON is refused so in family 002.
 
+    An overloaded bridge has no weight. If bit 3 of CON is set, the reading answers, with `overload` True. `value`, `kilograms`,
+    `kilograms_exact` and every `difference` raise `Refused` with number 24, after 8.
+
     >>> weight = Weight.from_bytes(bytes.fromhex('51020001'), Family.OF_002)
     >>> weight.value, weight.kilograms_exact, weight.kilograms
     (251000000, Fraction(251, 10), 25.1)
@@ -51,6 +57,12 @@ class Weight:
     >>> Weight.from_bytes(bytes.fromhex('51020041'), Family.OF_002).kilograms
     Traceback (most recent call last):
     quay_refusal.Refused: refusal 8: a field outside its values
+    >>> overloaded = Weight.from_bytes(bytes.fromhex('00000618'), Family.OF_002)
+    >>> overloaded.reading.overload, bytes(overloaded).hex()
+    (True, '00000618')
+    >>> overloaded.value
+    Traceback (most recent call last):
+    quay_refusal.Refused: refusal 24: overload, so the reading has no value
     """
     w0: int
     w1: int
@@ -80,7 +92,7 @@ class Weight:
 
     @property
     def reading(self) -> Reading:
-        """What the terminal shows.
+        """What the terminal shows. An overload is marked here and is not refused.
 
         >>> reading = Weight.from_bytes(bytes.fromhex('050000b1'), Family.OF_002).reading
         >>> reading.minus, reading.number, reading.point, reading.settled, reading.mode
@@ -92,17 +104,24 @@ class Weight:
 
     @property
     def value(self) -> int:
-        """A signed whole number of tenths of a milligram. Minus zero is 0 in value and keeps its sign bit in the reading."""
+        """A signed whole number of tenths of a milligram. Minus zero is 0 in value and keeps its sign bit in the reading. `Refused` is judged
+        8, 24."""
         return accepted(library().quay_value(self.crossing())).value
 
     @property
     def kilograms_exact(self) -> Fraction:
-        """The weight in kilograms, exactly: the value over 10,000,000."""
+        """The weight in kilograms, exactly: the value over 10,000,000. It is refused as the value is."""
         return exact_kilograms(self.value)
 
     @property
     def kilograms(self) -> float:
-        """The weight in kilograms as a 64-bit float: the value over 10,000,000, rounded once; value 0 gives plus zero."""
+        """The weight in kilograms as a 64-bit float: the value over 10,000,000, rounded once; value 0 gives plus zero. It is refused as the
+        value is.
+
+        >>> Weight.from_bytes(bytes.fromhex('00000618'), Family.OF_002).kilograms
+        Traceback (most recent call last):
+        quay_refusal.Refused: refusal 24: overload, so the reading has no value
+        """
         return accepted(library().quay_kilograms(self.crossing())).kilograms
 
 
@@ -116,9 +135,14 @@ def exact_kilograms(value: int) -> Fraction:
 
 
 def difference(gross: Weight, net: Weight) -> int:
-    """Gross less net in tenths of a milligram: a signed difference, which may be negative. The two may be of different families.
+    """Gross less net in tenths of a milligram: a signed difference, which may be negative. The two may be of different families. `Refused` is
+    judged 8 of either weight, then 24 of either.
 
-    >>> difference(Weight(0x51, 0x02, 0, 0x01, Family.OF_002), Weight(0x05, 0, 0, 0x91, Family.OF_002))
+    >>> gross = Weight(0x51, 0x02, 0, 0x01, Family.OF_002)
+    >>> difference(gross, Weight(0x05, 0, 0, 0x91, Family.OF_002))
     256000000
+    >>> difference(gross, Weight(0x05, 0, 0, 0x99, Family.OF_002))
+    Traceback (most recent call last):
+    quay_refusal.Refused: refusal 24: overload, so the reading has no value
     """
     return accepted(library().quay_difference(gross.crossing(), net.crossing())).value

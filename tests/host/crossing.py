@@ -10,7 +10,7 @@ from __future__ import annotations
 
 import os
 import sys
-from typing import Union
+from typing import Callable, Union
 
 sys.path.append(os.path.join(os.path.dirname(os.path.abspath(__file__)), '..', 'model'))
 
@@ -168,24 +168,27 @@ def read_weight(five: bytes) -> Answer:
             reading.family)
 
 
+def weighed(ask: Callable[..., tuple], *fives: bytes) -> tuple:
+    """What the model answers of the readings: (0, answer), or a number alone. Bytes that are no reading, of any of them, go before what the
+    model refuses of readings: "24 overload, after 8"."""
+    readings = [reading_of(five) for five in fives]
+    wrong = [answer for answer in readings if answer[0] != ACCEPTED]
+    return wrong[0] if wrong else ask(*(answer[1] for answer in readings))
+
+
 def value(five: bytes) -> Answer:
-    answer = reading_of(five)
-    return answer + (NO_VALUE,) if answer[0] != ACCEPTED else weight.value(answer[1])
+    answer = weighed(weight.value, five)
+    return answer if answer[0] == ACCEPTED else answer + (NO_VALUE,)
 
 
 def difference(gross: bytes, net: bytes) -> Answer:
-    readings = [reading_of(five) for five in (gross, net)]
-    wrong = [answer for answer in readings if answer[0] != ACCEPTED]
-    if wrong:
-        return wrong[0] + (NO_VALUE,)
-    return weight.difference(readings[0][1], readings[1][1])
+    answer = weighed(weight.difference, gross, net)
+    return answer if answer[0] == ACCEPTED else answer + (NO_VALUE,)
 
 
 def kilograms(five: bytes) -> Answer:
-    answer = reading_of(five)
-    if answer[0] != ACCEPTED:
-        return answer + ('nan',)
-    return (ACCEPTED, weight.float_bits(weight.kilograms(answer[1])[1]))
+    answer = weighed(weight.kilograms, five)
+    return (ACCEPTED, weight.float_bits(answer[1])) if answer[0] == ACCEPTED else answer + ('nan',)
 
 
 # ---- the log

@@ -23,6 +23,7 @@ Maker = Callable[[RandomBytes], Case]
 
 MARKS = marked_room(1200)
 LITTLE = 12
+OVERLOAD = 0x08  # bit 3 of CON
 SOME_CODES = tuple(message.TABLE)
 STRANGE = (2, 3, 4, 12, 127, 128, 255)  # no role, and but for 3 no phase; no kind of event
 STRANGE_FAMILIES = (4, 5, 127, 128, 255)
@@ -58,8 +59,10 @@ def wide_number(source: RandomBytes) -> int:
 # ---- weights
 
 def some_weight(source: RandomBytes) -> bytes:
-    """W0 W1 W2 CON and the family, mostly right."""
-    five = weight_data(source) + bytes([a_family(source)])
+    """W0 W1 W2 CON and the family, mostly right, and overloaded one time in four: what is overloaded has no value to compare."""
+    w0, w1, w2, status = weight_data(source)
+    overload = 0 if source.below(4) else OVERLOAD
+    five = bytes([w0, w1, w2, status & ~OVERLOAD | overload, a_family(source)])
     if source.below(5):
         return five
     place = source.below(3)

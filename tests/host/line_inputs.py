@@ -141,10 +141,20 @@ def wrong_checks() -> Iterator[tuple[Event, bytes]]:
                 yield (1, 0, 10, len(body)), body[:-1] + bytes([body[-1] ^ change])
 
 
+def overloaded_bodies() -> Iterator[tuple[Event, bytes]]:
+    """Both weights with the overload bit set, zero and not, settled and not, with each sign: heard, noted and listed, though they have no value."""
+    for code in (message.GROSS, message.NET):
+        for digits in ('000006', '000000', '999999'):
+            for status in (0x08, 0x18, 0x98, 0x2F):
+                body = body_of(('short', 1), code, bytes.fromhex(digits) + bytes([status]))
+                yield (1, 0, 10, len(body)), body
+
+
 def lent_events() -> Iterator[tuple[Event, bytes]]:
     yield from strange_events()
     yield from strange_bodies()
     yield from wrong_checks()
+    yield from overloaded_bodies()
 
 
 def recording() -> Iterator[Case]:

@@ -22,6 +22,7 @@ Case = tuple
 MARKS = cases_frame.marked_room(1200)
 STRANGE_ROLES = (2, 3, 128, 255)
 STRANGE_FAMILIES = (4, 5, 127, 128, 254, 255)
+OVERLOAD = 0x08  # bit 3 of CON
 BOTH_NUMBERS = ((1, 1), (1, 255), (0xFD, 16_777_215), (1, 16_777_216), (0xFE, 1), (255, 2 ** 32 - 1))
 
 
@@ -56,9 +57,19 @@ def strange_weights() -> Iterator[bytes]:
             yield of_family(bytes.fromhex(text), family)
 
 
+def overloaded_weights() -> Iterator[bytes]:
+    """Zero, the paper's digits and the largest, at each point and with each sign, the overload bit set: in every family and in numbers that name
+    none. An overloaded zero is no weight of nothing."""
+    for digits in ('000000', '510200', '999999'):
+        for status in (sign | OVERLOAD | point for sign in (0, 0x80) for point in range(8)):
+            for family in (*families.ALL, 4, 255):
+                yield of_family(bytes.fromhex(digits) + bytes([status]), family)
+
+
 def fives() -> Iterator[bytes]:
     yield from model_weights()
     yield from strange_weights()
+    yield from overloaded_weights()
 
 
 def weights() -> Iterator[Case]:
@@ -86,9 +97,21 @@ def family_differences() -> Iterator[Case]:
             yield ('difference', gross, net)
 
 
+def overload_differences() -> Iterator[Case]:
+    """Good, overloaded, bad, and both at once, each beside each: digits or bit 6 of 002 may be what is bad. 8 of either goes before 24 of either."""
+    every = [of_family(bytes.fromhex(digits) + bytes([status | over]), family)
+             for digits, status, family in (('510200', 0x11, families.OF_002), ('000000', 0x80, families.PLAIN), ('5a0200', 0x11, families.OF_001),
+                                            ('510200', 0x51, families.OF_002), ('510200', 0x11, 4))
+             for over in (0, OVERLOAD)]
+    for gross in every:
+        for net in every:
+            yield ('difference', gross, net)
+
+
 def differences() -> Iterator[Case]:
     yield from corner_differences()
     yield from family_differences()
+    yield from overload_differences()
     every = list(fives())
     for gross, net in zip(every[::3], every[1::3]):
         yield ('difference', gross, net)
@@ -152,8 +175,9 @@ def messages_read() -> Iterator[Case]:
 
 # ---- records
 
-# New ones, an old one whose byte 17 is 0, and a refusal, which has no family.
-RECORDS = (cases_log.GOOD, cases_log.GOOD_SERIAL, cases_log.OLD, cases_log.GOOD_REFUSAL)
+# New ones, one of them overloaded, an old one whose byte 17 is 0, and a refusal, which has no family.
+OVERLOADED = cases_log.GOOD._replace(status=cases_log.GOOD.status | OVERLOAD)
+RECORDS = (cases_log.GOOD, cases_log.GOOD_SERIAL, OVERLOADED, cases_log.OLD, cases_log.GOOD_REFUSAL)
 
 
 def records_written() -> Iterator[Case]:
@@ -197,7 +221,7 @@ def steps() -> Iterator[Case]:
             yield (name, *inputs)
     whole = b''.join(cases_log.record_bytes(record) for record in RECORDS)
     for log in (whole, whole[1:], b'\x00' + whole, whole + b'\x07' * 19):
-        for place in (*range(0, 102), 2 ** 32, 2 ** 63 - 1, 2 ** 63, 2 ** 64 - 21, 2 ** 64 - 20, 2 ** 64 - 1):
+        for place in (*range(0, 122), 2 ** 32, 2 ** 63 - 1, 2 ** 63, 2 ** 64 - 21, 2 ** 64 - 20, 2 ** 64 - 1):
             yield ('step', log, place)
 
 

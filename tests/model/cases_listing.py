@@ -1,12 +1,14 @@
 """Cases of the listing: lines of events in every family, the total line, small captures."""
 
+from itertools import product
+
 from addresses import HIGH
 from captures import (E3_WEIGHT, PAPER, WEIGHTS, any_body, named_captures, reply_body, request_body,
                       weight_body, wrong_field_body)
 from cases_frame import written
 from cases_line import event_with
 import families
-from families_asked import every_mix, some_family
+from families_asked import FIVE, MINUS, OVERLOAD, SETTLED, every_mix, some_family
 from frame import HIGHEST_SHORT, body_of
 from good_messages import ROWS, good_data
 from line import Event, hear
@@ -54,12 +56,11 @@ def line_cases(source, turn):
 
 def family_events():
     """(family, event) of both weights, in every family with bits 6 and 5 clear
-    and set: settled and overloaded; the longest line; and a message that no
-    family changes."""
+    and set: settled; the longest line; and a message that no family changes."""
     for code in WEIGHTS:
         for family, status in every_mix(0x91):
             yield family, event_with(body_of(('short', 1), code, b'\x05\x00\x00' + bytes([status])))
-        for family, status in every_mix(0x1F):
+        for family, status in every_mix(0x17):
             longest = b'\x99\x99\x99' + bytes([status])
             yield family, event_with(body_of(('serial', 16_777_215), code, longest))
     for family in families.ALL:
@@ -71,6 +72,38 @@ def family_cases():
         need = len(event_line(2, family, event))
         for length in (need, need - 1, need + 5):
             yield written('write_line', write_line, (2, family, event), length)
+
+
+def overload_events():
+    """(family, event) of both weights overloaded: both signs, settled and not, in
+    every family with bits 6 and 5 clear and set, the points and the digits in turn;
+    and with digits that are not decimal, which are refused."""
+    turns = product(WEIGHTS, (0, MINUS), (0, SETTLED))
+    for shift, (code, minus, settled) in enumerate(turns):
+        for place, (family, status) in enumerate(every_mix(OVERLOAD | minus | settled)):
+            digits = (b'\x00\x00\x00', b'\x00\x00\x06', b'\x99\x99\x99')[(place + shift) % 3]
+            status |= (place + shift) % 8
+            yield family, event_with(body_of(('short', 2), code, digits + bytes([status])))
+    for family in families.ALL:
+        yield family, event_with(body_of(('short', 2), 0xC3, b'\x00\x0a\x06' + bytes([OVERLOAD | SETTLED])))
+
+
+def longest_overloaded():
+    """(family, event) of the longest lines of both weights overloaded, with both signs."""
+    for code, family, minus in product(WEIGHTS, families.ALL, (0, MINUS)):
+        status = OVERLOAD | SETTLED | FIVE | minus | 7
+        yield family, event_with(body_of(('serial', 16_777_215), code, b'\x99\x99\x99' + bytes([status])))
+
+
+def overload_cases():
+    """Hyphens need the room that digits need."""
+    for family, event in overload_events():
+        yield written('write_line', write_line, (7, family, event), len(event_line(7, family, event)))
+    for family, event in longest_overloaded():
+        count = COUNTS[-1]
+        need = len(event_line(count, family, event))
+        for length in (need, need - 1):
+            yield written('write_line', write_line, (count, family, event), length)
 
 
 def handed_in_cases(turn):
@@ -107,6 +140,7 @@ def cases():
     turn = RandomBytes(71)  # of the families, so that the other bytes do not depend on them
     yield from line_cases(source, turn)
     yield from family_cases()
+    yield from overload_cases()
     yield from handed_in_cases(turn)
     yield from total_cases()
     yield from capture_cases(turn)

@@ -12,6 +12,7 @@ from good_messages import weight_data
 from line import Event, hear
 from log import NO_FAMILY, NO_WEIGHT, Record, read_record, record_heard, step, weight_noted, write_record
 from message import ROLES
+from overloads_asked import overloaded_replies
 from random_bytes import RandomBytes
 from refusals import ALL
 
@@ -22,6 +23,8 @@ GOOD_REFUSAL = Record(1000, 3, 0, 0, 4, NO_WEIGHT, NO_FAMILY)
 OLD = GOOD_SERIAL._replace(family=families.PLAIN)
 WIDE_SERIALS = (0x1000000, 2 ** 32 - 1)  # open point 7.10
 HALVES = (0, 9, 10, 15)  # of a weight byte, at and past the decimal digits
+# At and past the refusals that a line meets; the later numbers of 01 and 02; and bits of CON.
+STATUSES = (*range(12), 20, 21, 22, 23, 24, 27, 31, 0x40, 0x91, 128, 255)
 
 
 def field_changes():
@@ -36,7 +39,7 @@ def field_changes():
             yield base._replace(address=address)
         for serial in (0, 1, 255, 256, 0xFFFFFE, 0xFFFFFF, 0x010203):
             yield base._replace(serial=serial)
-        for status in (*range(12), 20, 21, 22, 23, 24, 27, 31, 0x40, 0x91, 128, 255):
+        for status in STATUSES:
             yield base._replace(status=status)
         for byte in (0x00, 0x09, 0x0A, 0x90, 0x99, 0x9A, 0xA0, 0xFF):
             for place in range(3):
@@ -157,6 +160,22 @@ def family_cases():
                     yield heard_case(1000, role, family, event_with(body))
 
 
+def overload_cases():
+    """Overloaded weights are noted as any other, their four bytes as they stood (open
+    point 6.7): heard, written, read, and a log of each kind stepped from each record."""
+    records = []
+    for family, (name, number), code, data in overloaded_replies():
+        yield heard_case(1000, 'reply', family, event_with(body_of((name, number), code, data)))
+        short, serial = (number, 0) if name == 'short' else (0, number)
+        records.append(Record(1000, 1 if code == 0xC3 else 2, short, serial, data[3], data[:3], family))
+    for record in records:
+        yield write_case(record, 20)
+        yield read_case(record_bytes(record))
+        yield weight_case(record)
+    for kind in (1, 2):
+        yield from stepped_cases(b''.join(record_bytes(record) for record in records if record.kind == kind))
+
+
 def address_cases(source):
     """A weight from each address of interest, its event handed in. FE and FF,
     which no wire heard from fresh gives, are noted as refusal 5."""
@@ -194,22 +213,29 @@ def step_cases(source):
             yield ('step', (log, place), step(log, place))
 
 
+def stepped_cases(log):
+    """A whole log, stepped from each of its records and from its end."""
+    for place in range(0, len(log) + 1, 20):
+        yield ('step', (log, place), step(log, place))
+
+
 def address_step_cases():
     """A log of one record from each address of interest, stepped from each: a
     bad record is 11 at its own place only."""
     for base in (GOOD, GOOD._replace(kind=2)):
-        log = b''.join(record_bytes(base._replace(address=first)) for first in HIGH)
-        for place in range(0, len(log) + 1, 20):
-            yield ('step', (log, place), step(log, place))
+        yield from stepped_cases(b''.join(record_bytes(base._replace(address=first)) for first in HIGH))
 
 
 def family_step_cases():
     """A log of one record for each byte 17 and both bits, stepped from each."""
     records = list(family_changes())
     for kind in (1, 2, 3):
-        log = b''.join(record_bytes(record) for record in records if record.kind == kind)
-        for place in range(0, len(log) + 1, 20):
-            yield ('step', (log, place), step(log, place))
+        yield from stepped_cases(b''.join(record_bytes(record) for record in records if record.kind == kind))
+
+
+def status_step_cases():
+    """A log of one record of kind 3 for each status of interest, stepped from each."""
+    yield from stepped_cases(b''.join(record_bytes(GOOD_REFUSAL._replace(status=status)) for status in STATUSES))
 
 
 def weight_case(record):
@@ -251,4 +277,6 @@ def cases():
         yield from group(source)
     yield from address_step_cases()
     yield from family_cases()
+    yield from overload_cases()
     yield from family_step_cases()
+    yield from status_step_cases()

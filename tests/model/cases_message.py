@@ -8,6 +8,7 @@ from families_asked import every_mix, some_family
 from frame import HIGHEST_SHORT, body_of, room_needed
 from good_messages import LONGEST_TEXT, ROWS, good_data, some_address
 from message import ROLES, TABLE, read_message, write_message
+from overloads_asked import overloaded_replies
 from random_bytes import RandomBytes
 
 NEAR_LENGTHS = range(0, 10)
@@ -173,6 +174,13 @@ def family_order_cases():
             yield read_case('reply', family, body_of(address, 0xC3, data))
 
 
+def overload_cases():
+    """Overloaded weights are read and written as any other (open point 6.7)."""
+    for family, address, code, data in overloaded_replies():
+        yield read_case('reply', family, body_of(address, code, data))
+        yield write_case('reply', family, address, code, data, 16)
+
+
 def row_family_cases(source):
     """Every row in its role and every family, right data."""
     for role, code in ROWS:
@@ -194,3 +202,4 @@ def cases():
     yield from family_cases()
     yield from family_order_cases()
     yield from row_family_cases(source)
+    yield from overload_cases()

@@ -6,12 +6,13 @@ import cases_table_fill
 import cases_table_grow
 import cases_table_mean
 import families
+from families_asked import MINUS, SETTLED
 from hour_table import EMPTY, EMPTY_TABLE, Cell, add, cell_is_sound, enter, slot_of
 from random_bytes import RandomBytes
 from tables_asked import (BESIDE, BROKEN, DAY, GOOD, GROSS, HEAVY, HOUR, IDLE, LAST_SLOT, LAST_TIME, LAST_WEEK,
-                          LEAST, LENT, MINUS, NET, OWN, REFUSED, SETTLED, SLOTS, TOO_WIDE, UNSOUND, WEEK, at,
-                          edge_cells, every_cell_told, full_cells, some_cell, some_good_record, some_slots, some_table,
-                          table_of, time_of)
+                          LEAST, LENT, NET, OWN, REFUSED, SLOTS, TOO_WIDE, UNSOUND, WEEK, at, edge_cells,
+                          every_cell_told, full_cells, some_cell, some_good_record, some_slots, some_table, table_of,
+                          time_of)
 
 # Where a time is cut to 32 or taken as signed 64 bits it changes here.
 ROUND_TIMES = (2 ** 16, 2 ** 31, 2 ** 32, 2 ** 53, 2 ** 63, 2 ** 64)

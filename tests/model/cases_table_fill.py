@@ -3,6 +3,7 @@
 from addresses import HIGH
 from cases_log import family_changes, record_bytes
 from hour_table import EMPTY_TABLE, Cell, fill
+from overloads_asked import overloaded_weights
 from tables_asked import (BESIDE, BROKEN_BYTES, END_COUNTS, FIRST_SLOT, GOOD, GROSS, GROWING, HEAVIEST, HEAVY, IDLE,
                           LAST_SLOT, LAST_TIME, LEAST, LENT, MINUS_ZERO, NEARLY_FULL, NEGATIVE, NET, OVERLOADED, OWN,
                           REFUSED, SLOTS, UNSETTLED, UNSOUND, ZERO, at, every_cell_told, log_of, some_cell,
@@ -106,6 +107,16 @@ def filled_up():
             yield log_of(GROSS, REFUSED, at(slot, GROSS), at(slot, REFUSED), GROSS, at(slot, NEGATIVE)), lent
 
 
+def overloaded_logs():
+    """Overloaded gross records ahead of one that counts: they change nothing, however
+    full their cell is (open points 6.7 and 8.3)."""
+    records = [GROSS._replace(status=four[3], weight=four[:3], family=family) for family, four in overloaded_weights()]
+    for cell in (LENT, Cell(65_534, 65_535, 9), Cell(65_535, 65_535, 9)):
+        for front in (records, records[::-1]):
+            yield log_of(*front), table_of({OWN: cell})
+            yield log_of(*front, GROSS, *front, GROSS), table_of({OWN: cell})
+
+
 def first_refusals():
     """10, 11 and 23 in one log: the first from the front is the answer."""
     full = table_of({OWN: Cell(65_535, 65_535, 9)})
@@ -192,8 +203,8 @@ def some_fillings(source):
 
 
 def cases(source):
-    fillings = [*empty_logs(), *unsound_tables(), *cut_logs(), *broken_logs(), *filled_up(), *first_refusals(),
-                *sums_at_ends(), *times_apart(), *every_sort()]
+    fillings = [*empty_logs(), *unsound_tables(), *cut_logs(), *broken_logs(), *filled_up(), *overloaded_logs(),
+                *first_refusals(), *sums_at_ends(), *times_apart(), *every_sort()]
     for group in (weeks, longest_logs, filled_further, some_fillings):
         fillings += group(source)
     for log, table in fillings:

@@ -1,9 +1,12 @@
 """Cases of weights: four bytes, readings, values, differences, kilograms, modes."""
 
+from itertools import product
+
 import families
 from families_asked import some_family
 from good_messages import weight_data
 from message import inputs_on
+from overloads_asked import overloaded_weights
 from random_bytes import RandomBytes
 from weight import (Reading, difference, float_bits, kilograms, mode, read_reading, reading_is_right, value,
                     write_reading)
@@ -94,6 +97,20 @@ def family_readings():
     yield from every_family(bare(0, 251, 8))
 
 
+def overloaded_readings():
+    """In their ranges, and overloaded."""
+    for family, four in overloaded_weights():
+        yield read_reading(family, four)[1]
+
+
+def wrong_and_overloaded():
+    """A number or a point that is wrong in every family, and bit 6 of 002, of
+    overloaded readings: 8 goes ahead of 24."""
+    for wrong in (bare(0, 1_000_000, 1), bare(1, 251, 8), bare(1, 1_000_000, 8), bare(0, 0, 255)):
+        yield from (wrong._replace(overload=1, settled=family % 2, family=family) for family in families.ALL)
+    yield from (bare(minus, 0, 0, families.OF_002)._replace(six=1, overload=1) for minus in NO_OR_YES)
+
+
 def kilogram_answer(reading):
     answer = kilograms(reading)
     return answer if len(answer) == 1 else (answer[0], float_bits(answer[1]))
@@ -107,7 +124,7 @@ def bytes_answer(reading):
 
 def reading_cases(source, turn):
     readings = in_some_family(turn, some_readings(source)) + in_some_family(turn, wrong_readings())
-    for reading in readings + list(family_readings()):
+    for reading in [*readings, *family_readings(), *overloaded_readings(), *wrong_and_overloaded()]:
         yield ('reading_is_right', (reading,), (reading_is_right(reading),))
         yield ('write_reading', (reading,), bytes_answer(reading))
         yield ('value', (reading,), value(reading))
@@ -136,9 +153,22 @@ def family_pairs():
     return [(gross, net) for gross in grosses for net in nets]
 
 
+def overload_pairs():
+    """Each overloaded reading beside one that has a value; and every sort of reading,
+    of those that are wrong too, beside every sort that is overloaded."""
+    right = bare(1, 251, 2, families.OF_001)
+    for reading in overloaded_readings():
+        yield from ((reading, right), (right, reading))
+    reserved = bare(0, 251, 1, families.OF_002)._replace(six=1)
+    sorts = [right, bare(0, 0, 7, families.OF_002), bare(0, 1_000_000, 0), bare(0, 1, 8), reserved]
+    overloaded = [reading._replace(overload=1) for reading in sorts]
+    yield from product(sorts, overloaded)
+    yield from product(overloaded, sorts + overloaded)
+
+
 def difference_cases(source, turn):
     pairs = [tuple(in_some_family(turn, pair)) for pair in some_pairs(source)]
-    for gross, net in pairs + family_pairs():
+    for gross, net in [*pairs, *family_pairs(), *overload_pairs()]:
         yield ('difference', (gross, net), difference(gross, net))
 
 

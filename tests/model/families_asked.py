@@ -1,12 +1,13 @@
-"""Families, bits 6 and 5, and bytes 17 of interest, for cases.
+"""Families, the bits of CON, and bytes 17 of interest, for cases.
 
-Which of them are refused stands in `families.TABLE` and nowhere here.
+Which of them are refused stands in `families.TABLE` and `weight.py`, and nowhere
+here.
 """
 
 import families
 
-SIX = 0x40                            # bits of CON
-FIVE = 0x20
+SIX, FIVE = 0x40, 0x20                # bits of CON
+MINUS, SETTLED, OVERLOAD = 0x80, 0x10, 0x08
 BITS_6_AND_5 = (0, FIVE, SIX, SIX | FIVE)
 # Byte 17 of a record: each family's number, what stands behind them, and the last byte.
 BYTES_17 = families.ALL + (4, 255)

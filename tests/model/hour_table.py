@@ -75,7 +75,8 @@ def one_weight(value):
 def share_of(record):
     """What a good record brings to its cell: one settled gross weight without
     overload and its value; or one refused record, whatever its status (open point
-    8.5); or nothing."""
+    8.5); or nothing. So it never asks the value of an overloaded weight, which would
+    be refused (open point 6.7), and no table meets 24."""
     if record.kind == log.KIND_REFUSED:
         return ONE_REFUSED
     _, reading = log.weight_noted(record)
@@ -118,8 +119,7 @@ def add_refused(cell):
 
 def add(record, cell):
     """One record into the cell that is lent as its own: (0, cell) or (number,).
-    The order is 31, 11, 23. The library has this in parts, `hour_cell::counts_as`
-    and then `add_weight` or `add_refused`."""
+    The order is 31, 11, 23."""
     if not cell_is_sound(cell):
         return refused(SUM_TOO_FAR)
     if log.judge_record(record) != ACCEPTED:

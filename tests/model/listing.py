@@ -2,8 +2,9 @@
 
 "(event; address, or `0:` and the serial, in decimal; sign bit as + or -;
 digits; point; settled; overload)". 02 request 4: "The listing adds one field at
-the end of a weight line". Every line ends with a newline, the total too (open
-point 5.8).
+the end of a weight line". 02 request 7: "The listing prints six hyphens for the
+digits" of an overloaded weight. Every line ends with a newline, the total too
+(open point 5.8).
 """
 
 import families
@@ -13,6 +14,7 @@ from refusals import ACCEPTED, lend, refused_write
 
 # The last field of a weight line, by what bit 5 is called: where it is clear, where it is set.
 LAST_FIELDS = {families.NET_MODE: ('gross', 'net'), families.SCALE_NUMBER: ('scale0', 'scale1')}
+NO_DIGITS = '------'  # "six hyphens"
 FAMILY_NOT_SAID = families.OF_002  # "where this paper is silent, 002 decides" (open point 5.7)
 
 
@@ -33,10 +35,12 @@ def last_field(reading):
 
 def weight_text(reading):
     """The sign bit, not the value's sign; six digits and no point in them
-    (open point 5.4)."""
+    (open point 5.4). An overloaded weight has hyphens there, "sign, point, settled
+    and overload as before" (open point 5.5), and its last field (open point 5.6)."""
     sign = '-' if reading.minus else '+'
-    return '%s %06d %d %d %d%s' % (sign, reading.number, reading.point, reading.settled,
-                                   reading.overload, last_field(reading))
+    digits = NO_DIGITS if reading.overload else '%06d' % reading.number
+    return '%s %s %d %d %d%s' % (sign, digits, reading.point, reading.settled,
+                                 reading.overload, last_field(reading))
 
 
 def entry(family, event):

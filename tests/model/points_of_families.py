@@ -226,9 +226,6 @@ def test_lines(expect):
                '1 weight gross 1 + 000251 1 0 0' + field)
     expect('02/4 bit 6', listed(OF_002, body_of(ONE, 0xC3, weight_bytes(0x61)), body_of(ONE, 0xCD, b'')),
            ['1 refused 8', '2 message 1 CD', 'total 2 weights 0 refused 1', ''])
-    # an overloaded weight has the field behind the overload digit
-    expect('5.6', listed(OF_001, body_of(('serial', 255), 0xC3, weight_bytes(0x39)))[0],
-           '1 weight gross 0:255 + 000251 1 1 1 scale1')
     # 5.7 where no family is said, 002
     expect('5.7', FAMILY_NOT_SAID, OF_002)
 

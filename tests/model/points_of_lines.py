@@ -3,7 +3,8 @@
 Each expectation names its point; (!) marks the points a program can be caught
 on. Points of requests not yet built are held to what is true before them. The
 addresses of 02 request 1 have their own points, in points_of_addresses.py, the
-families of 02 request 4 in points_of_families.py.
+families of 02 request 4 in points_of_families.py, the overload of 02 request 7,
+5.5, in points_of_overload.py.
 """
 
 from check_byte import check_of
@@ -151,9 +152,6 @@ def test_listing(expect):
     expect('5.3', lines[:2], ['1 weight gross 0:255 + 000251 1 0 0 gross', '2 message 0:0 A1'])
     # 5.4 the sign bit, six digits, the point behind them
     expect('5.4', listed(body_of(ONE, 0xC2, b'\x00\x00\x00\x87'))[0], '1 weight net 1 - 000000 7 0 0 gross')
-    # 5.5 (!) before 02/7 an overloaded weight's digits are printed, and it counts
-    expect('5.5', listed(body_of(ONE, 0xC3, b'\x00\x06\x00\x18')),
-           ['1 weight gross 1 + 000600 0 1 1 gross', 'total 1 weights 1 refused 0', ''])
     # a line alone is the line in its listing
     event = next(hear(frame_of(body_of(ONE, 0xCD, b''))))
     room = bytearray(b'\xaa' * 16)
@@ -167,7 +165,7 @@ def test_listing(expect):
         room = bytearray(12)
         expect('met on the line', (write_line(1, OF_002, Event(number, 9, 4, b''), room), bytes(room)),
                ((0, 12), b'1 refused %d\n' % number))
-    for number in (9, 10, 11, 20, 21, 22, 23, 31):
+    for number in (9, 10, 11, 20, 21, 22, 23, 24, 31):
         for length in (0, 12, 13, 100):
             room = bytearray(b'\xaa' * length)
             expect('not met on the line', (write_line(1, OF_002, Event(number, 9, 4, b''), room), bytes(room)),

@@ -1,14 +1,15 @@
 """The open points of sections 6 and 7: weights and the log.
 
 Readings are plain here and records are old ones. The points of 02 request 4,
-6.3 to 6.5, 7.8 and 7.9, stand in points_of_families.py.
+6.3 to 6.5, 7.8 and 7.9, stand in points_of_families.py, those of 02 request 7,
+6.1 and 6.7, in points_of_overload.py.
 """
 
 from families import PLAIN
 from frame import HIGHEST_SHORT, body_of, frame_of
 from line import Event, hear
 from log import NO_WEIGHT, Record, read_record, record_heard, step, weight_noted, write_record
-from message import ROLES, read_message
+from message import ROLES
 from random_bytes import RandomBytes
 from weight import (Reading, difference, float_bits, is_near, kilograms, kilograms_of, read_reading,
                     value, write_reading)
@@ -17,7 +18,6 @@ ONE = ('short', 1)
 HEAVY = Reading(0, 999_999, 0, 0, 0, 1, 0, PLAIN)
 WRONG = Reading(0, 1_000_000, 0, 0, 0, 1, 0, PLAIN)
 FAR = Reading(0, 1, 8, 0, 0, 1, 0, PLAIN)
-OVERLOADED = Reading(0, 600, 1, 0, 0, 1, 1, PLAIN)
 
 
 def written(record):
@@ -47,13 +47,9 @@ def test_readings(expect):
 def test_values(expect):
     expect('largest', value(HEAVY), (0, 9_999_990_000_000))
     expect('least', difference(HEAVY._replace(minus=1), HEAVY), (0, -19_999_980_000_000))
-    # 6.1 (!) before 02/7 overload is no refusal; 8 of either reading is 8
-    expect('6.1', difference(OVERLOADED, HEAVY)[0], 0)
-    for pair in ((WRONG, OVERLOADED), (OVERLOADED, WRONG), (FAR, WRONG), (HEAVY, FAR)):
-        expect('6.1', difference(*pair), (8,))
-    # 6.7 overload: the message is still read, the value still made before 02/7
-    expect('6.7', read_message('reply', PLAIN, body_of(ONE, 0xC3, b'\x00\x06\x00\x19'))[0], 0)
-    expect('6.7', value(OVERLOADED), (0, 600_000_000))
+    # 8 of either reading is 8
+    for pair in ((WRONG, HEAVY), (HEAVY, WRONG), (FAR, WRONG), (HEAVY, FAR)):
+        expect('8 of either', difference(*pair), (8,))
 
 
 def test_kilograms(expect):
@@ -116,9 +112,8 @@ def test_heard(expect):
         expect('7.4', [record_heard(7, role, PLAIN, Event(number, 9, 4, b'')) for number in range(1, 9)],
                [Record(7, 3, 0, 0, number, NO_WEIGHT, 0) for number in range(1, 9)])
         # a refusal that no line can meet is 8, and makes no record
-        expect('not met on the line',
-               [record_heard(7, role, PLAIN, Event(number, 9, 4, b'')) for number in (9, 10, 11, 20, 21, 22, 23, 31)],
-               [(8,)] * 8)
+        for number in (9, 10, 11, 20, 21, 22, 23, 24, 31):
+            expect('not met on the line', record_heard(7, role, PLAIN, Event(number, 9, 4, b'')), (8,))
     refused = ((0x11, b''), (0xC3, b''), (0xBF, b'\x80'))
     expect('7.4', [recorded('reply', code, data) for code, data in refused],
            [Record(7, 3, 0, 0, number, NO_WEIGHT, 0) for number in (6, 7, 8)])
@@ -129,8 +124,6 @@ def test_heard(expect):
     expect('heard', recorded('reply', 0xC3, b'\x51\x02\x00\x01'), Record(7, 1, 1, 0, 1, b'\x51\x02\x00', 0))
     expect('heard', recorded('reply', 0xC2, b'\x05\x00\x00\x91', ('serial', 255)),
            Record(7, 2, 0, 255, 0x91, b'\x05\x00\x00', 0))
-    # 6.7 an overloaded weight is logged
-    expect('6.7', recorded('reply', 0xC3, b'\x00\x06\x00\x18').kind, 1)
 
 
 def test_weights_noted(expect):

@@ -1,4 +1,4 @@
-"""The numbers of the paper's list "What the answers mean", and those of 02 requests 5 and 6.
+"""The numbers of the paper's list "What the answers mean", and those of 02 requests 5, 6 and 7.
 
 Every answer of the model starts with one of these numbers. A reader that
 refuses answers the number and nothing else; a writer that refuses answers
@@ -21,11 +21,12 @@ HEADER_WRONG = 20    # 02 request 5: "header wrong or under 3 bytes"
 BYTES_MISSING = 21   # 02 request 5: "fewer bytes than length and check need"
 PARCEL_CHECK_WRONG = 22  # 02 request 5: "check wrong"
 COUNT_FULL = 23      # 02 request 6: "when a count would pass 65,535"
+BRIDGE_OVERLOADED = 24  # 02 request 7: "overload, after 8, instead of a value"
 SUM_TOO_FAR = 31     # 02 request 6: "a lent cell whose sum, sign aside, is beyond its count times 9,999,990,000,000"
 
 ALL = (BODY_TOO_SHORT, BODY_TOO_LONG, STRAY_BYTE, CHECK_WRONG, ADDRESS_WRONG, CODE_UNKNOWN,
        LENGTH_WRONG, FIELD_WRONG, ROOM_SHORT, LOG_LEFT_OVER, RECORD_WRONG, HEADER_WRONG, BYTES_MISSING,
-       PARCEL_CHECK_WRONG, COUNT_FULL, SUM_TOO_FAR)
+       PARCEL_CHECK_WRONG, COUNT_FULL, BRIDGE_OVERLOADED, SUM_TOO_FAR)
 LINE_REFUSALS = range(1, 9)  # "Kind 3 is a refusal met on the line: status 1 to 8"
 
 

@@ -43,7 +43,7 @@ def morning():
         weighed(LANE_2, 0xC3, 12_345, 0x11),                # one digit behind the point
         damaged(weighed(LANE_2, 0xC3, 40_960, 0x10), 4, 8),  # the ramp motor starts: a wrong check
         damaged(weighed(LANE_2, 0xC3, 40_960, 0x10), 5, 1),
-        weighed(LANE_2, 0xC3, 40_960, 0x18),                # overloaded
+        weighed(LANE_2, 0xC3, 40_960, 0x18),                # overloaded: hyphens in place of its digits
         frame_of(body_of(RAMP, 0xA1, b'\x65\x13\x01')),     # a serial number
         frame_of(body_of(RAMP, 0xC4, b'\x0f\x00\x00\x80')),  # the inputs
         weighed(RAMP, 0xC2, 0, 0x90),                       # minus zero, settled: a weight of nothing that was heard
@@ -79,7 +79,7 @@ def older():
         frame_of(body_of(NORTH, 0xC3, b'')),                # the poll itself, echoed
         bytes([0xFF, 0xA4, 0xC3, 0xFF, 0xFF]),              # a body of two bytes
         frame_of(body_of(NORTH, 0xEE, b'\x05')),            # the terminal says that it could not
-        weighed(SOUTH, 0xC3, 60_000, 0x18),                 # overloaded
+        weighed(SOUTH, 0xC3, 60_000, 0x18),                 # overloaded: the 60 tonnes that are no weight
         weighed(NORTH, 0xC3, 14_760, 0x10),
         weighed(SOUTH, 0xC3, 14_760, 0x10)[:6],             # the capture stops inside a frame
     ))

@@ -1,4 +1,4 @@
-"""The model tests itself: E1 to E8, the paper's listing, the open points, 02 requests 1, 2, 4, 5 and 6.
+"""The model tests itself: E1 to E8, the paper's listing, the open points, 02 requests 1, 2 and 4 to 7.
 
     python3 tests/model/selftest.py
 
@@ -19,6 +19,8 @@ import points_of_cases
 import points_of_families
 import points_of_lines
 import points_of_messages
+import points_of_overload
+import points_of_overload_cases
 import points_of_parcel_cases
 import points_of_parcels
 import points_of_table_cases
@@ -154,7 +156,8 @@ TESTS = (test_judged_examples, test_longest_body, test_paper_listing, test_misre
          test_frames_handed_back, test_blocks, test_random_source) \
     + points_of_lines.TESTS + points_of_messages.TESTS + points_of_weights.TESTS \
     + points_of_addresses.TESTS + points_of_walks.TESTS + points_of_families.TESTS + points_of_cases.TESTS \
-    + points_of_parcels.TESTS + points_of_parcel_cases.TESTS + points_of_tables.TESTS + points_of_table_cases.TESTS
+    + points_of_parcels.TESTS + points_of_parcel_cases.TESTS + points_of_tables.TESTS + points_of_table_cases.TESTS \
+    + points_of_overload.TESTS + points_of_overload_cases.TESTS
 
 
 def main():

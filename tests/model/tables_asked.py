@@ -6,6 +6,7 @@ Which records count in a cell, and which cells and records are refused, stands i
 
 from cases_log import record_bytes, some_record
 import families
+from families_asked import MINUS, OVERLOAD, SETTLED
 from hour_table import EMPTY_TABLE, HEAVIEST, HIGHEST_COUNT, HOURS, WEEKDAYS, Cell, replaced
 from log import NO_FAMILY, NO_WEIGHT, Record
 
@@ -20,8 +21,6 @@ LOWEST_SUM, HIGHEST_SUM = -2 ** 63, 2 ** 63 - 1
 NEARLY_FULL = (HIGHEST_COUNT - 2, HIGHEST_COUNT - 1, HIGHEST_COUNT)
 END_COUNTS = (0, 1, 2, HIGHEST_COUNT - 1, HIGHEST_COUNT)
 LENT = Cell(7, 9, -1_000_000_000_000)           # a cell with nothing special about it
-
-SETTLED, OVERLOAD, MINUS = 0x10, 0x08, 0x80     # bits of CON
 
 
 def time_of(slot, second=0, week=0):
@@ -54,7 +53,7 @@ BROKEN = tuple(GROSS._replace(kind=kind) for kind in (0, 3, 4, 255)) \
     + tuple(GROSS._replace(family=family) for family in (4, 255)) \
     + (GROSS._replace(serial=1), GROSS._replace(status=GROSS.status | 0x40), NET._replace(family=4),
        UNSETTLED._replace(serial=255), OVERLOADED._replace(weight=b'\xff\xff\xff')) \
-    + tuple(REFUSED._replace(status=status) for status in (0, 9, 10, 11, 12, 20, 21, 22, 23, 31, 255)) \
+    + tuple(REFUSED._replace(status=status) for status in (0, 9, 10, 11, 12, 20, 21, 22, 23, 24, 31, 255)) \
     + (REFUSED._replace(address=1), REFUSED._replace(serial=1), REFUSED._replace(family=1)) \
     + tuple(REFUSED._replace(weight=digits) for digits in (b'\x01\x00\x00', b'\x00\x01\x00', b'\x00\x00\x01'))
 TOO_WIDE = (GROSS._replace(serial=0x1000000), FROM_SERIAL._replace(serial=2 ** 32 - 1))  # in no 20 bytes

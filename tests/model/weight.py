@@ -3,7 +3,8 @@
 "A reading keeps the sign bit, the number 0 to 999,999, the point and the
 flags, so its four bytes come back exactly." 02 request 4: "A reading now
 carries its terminal family"; what its bits 6 and 5 are called is asked of
-`families.TABLE`.
+`families.TABLE`. 02 request 7: an overloaded reading is a reading as any other,
+and has no value.
 """
 
 from collections import namedtuple
@@ -11,7 +12,7 @@ from fractions import Fraction
 import struct
 
 import families
-from refusals import ACCEPTED, FIELD_WRONG, refused
+from refusals import ACCEPTED, BRIDGE_OVERLOADED, FIELD_WRONG, refused
 
 HIGHEST_NUMBER = 999_999
 HIGHEST_POINT = 7
@@ -72,22 +73,32 @@ def write_reading(reading):
     return (ACCEPTED, bytes([packed(pair) for pair in pairs] + [status]))
 
 
+def judge_values(*readings):
+    """Whether all of these readings have a value. 02 request 7: "The value of a
+    reading with bit 3 set must be refused", "24 overload, after 8". Of two readings
+    it is "8 of either first, then 24 of either" (open point 6.1)."""
+    if not all(map(reading_is_right, readings)):
+        return FIELD_WRONG
+    return BRIDGE_OVERLOADED if any(reading.overload for reading in readings) else ACCEPTED
+
+
 def value(reading):
     """"a signed whole number of tenths of a milligram: the digits times
-    10^(7 - point), negated for minus"; (0, value) or (8,)."""
-    if not reading_is_right(reading):
-        return refused(FIELD_WRONG)
+    10^(7 - point), negated for minus"; (0, value), (8,) or (24,)."""
+    number = judge_values(reading)
+    if number != ACCEPTED:
+        return refused(number)
     tenths = reading.number * 10 ** (7 - reading.point)
     return (ACCEPTED, -tenths if reading.minus else tenths)
 
 
 def difference(gross, net):
-    """"Gross less net is a signed difference and may be negative." Either
-    reading may be refused with 8 (open point 6.1). Two families are not
-    refused (open point 6.5)."""
-    for reading in (gross, net):
-        if not reading_is_right(reading):
-            return refused(FIELD_WRONG)
+    """"Gross less net is a signed difference and may be negative." (0, difference),
+    (8,) or (24,): "the gross less net difference" of an overloaded reading is
+    refused too. Two families are not refused (open point 6.5)."""
+    number = judge_values(gross, net)
+    if number != ACCEPTED:
+        return refused(number)
     return (ACCEPTED, value(gross)[1] - value(net)[1])
 
 
@@ -109,7 +120,7 @@ def is_near(kilograms, tenths):
 
 
 def kilograms(reading):
-    """(0, float) or (8,)."""
+    """(0, float), or as the value is refused: "the float ... refused too"."""
     answer = value(reading)
     if answer[0] != ACCEPTED:
         return answer

@@ -52,7 +52,8 @@ impl Total {
 }
 
 /// Writes the line of an event into lent room. The event is read as a reply of a line of a family. The last word of a weight's line is its
-/// [`Mode`](crate::Mode), if the family has one. If the line is refused by 9, the room is as it stood.
+/// [`Mode`](crate::Mode), if the family has one. An overloaded weight has six hyphens for its digits, and is listed as a weight all the
+/// same. If the line is refused by 9, the room is as it stood.
 /// Events are numbered from 1. The body of a frame is judged again, check and all: bytes that nobody heard list as the refusal they earn.
 ///
 /// ```
@@ -62,6 +63,10 @@ impl Total {
 /// let listed = list_event(1, Family::Of002, Event::Frame { wire: WirePlace(10), body: &body }, &mut room)?;
 /// assert_eq!(&room[..listed.length], b"1 weight gross 1 + 000251 1 0 0 gross\n");
 /// assert_eq!(listed.entry, Entry::Weight);
+///
+/// let overloaded = [0x01, 0xC3, 0x00, 0x00, 0x06, 0x18, 0xA2];
+/// let listed = list_event(2, Family::Of002, Event::Frame { wire: WirePlace(20), body: &overloaded }, &mut room)?;
+/// assert_eq!(&room[..listed.length], b"2 weight gross 1 + ------ 0 1 1 gross\n");
 /// # Ok::<(), Refusal>(())
 /// ```
 pub fn list_event(number: u64, family: Family, event: Event<'_>, room: &mut [u8]) -> Result<Listed, Refusal> {

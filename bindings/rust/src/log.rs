@@ -38,7 +38,8 @@ pub enum Noted {
         load: Load,
         /// By whom.
         address: Address,
-        /// Its four bytes, and the terminal's family: plain in a record from before there were families.
+        /// Its four bytes, and the terminal's family: plain in a record from before there were families. An overloaded bridge is noted so
+        /// too, although its value is refused by 24.
         weight: Weight,
     },
     /// A refusal met on the line, 1 to 8.

@@ -36,7 +36,7 @@ pub enum Says<'a> {
     Number(u8),
     /// A status.
     Status(u8),
-    /// A weight. A message that was read has four good bytes.
+    /// A weight. A message that was read has four good bytes. An overloaded bridge says them too: their value is refused by 24.
     Weight {
         /// Gross or net.
         load: Load,

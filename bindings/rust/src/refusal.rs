@@ -36,11 +36,14 @@ pub enum Refusal {
     ParcelCheckWrong = 22,
     /// 23: a count of the weekday and hour table would pass 65,535. Nothing of this crate answers 23 or 31 yet.
     CountFull = 23,
+    /// 24: a weight is marked overload, so that it has no value. [`Weight`](crate::Weight) answers it for its value, kilograms and
+    /// difference, after 8. No line meets it.
+    Overloaded = 24,
     /// 31: a lent cell of that table has a sum that is, sign aside, beyond its count times 9,999,990,000,000.
     SumBeyond = 31,
 }
 
-const IN_ORDER: [Refusal; 16] = [
+const IN_ORDER: [Refusal; 17] = [
     Refusal::BodyShort,
     Refusal::BodyLong,
     Refusal::HeldBroken,
@@ -56,6 +59,7 @@ const IN_ORDER: [Refusal; 16] = [
     Refusal::BytesMissing,
     Refusal::ParcelCheckWrong,
     Refusal::CountFull,
+    Refusal::Overloaded,
     Refusal::SumBeyond,
 ];
 
@@ -98,6 +102,7 @@ impl Refusal {
             Refusal::BytesMissing => "bytes of the parcel message are missing",
             Refusal::ParcelCheckWrong => "the check of the parcel message is wrong",
             Refusal::CountFull => "a count of the weekday and hour table would pass 65,535",
+            Refusal::Overloaded => "the bridge is overloaded and has no weight",
             Refusal::SumBeyond => "a cell of the weekday and hour table has a sum beyond what its count of weights allows",
         }
     }

@@ -7,6 +7,9 @@ use crate::refusal::{judged, Refusal};
 ///
 /// It can hold any four bytes. Each use tells whether they are a weight of that family: bit 6 of CON is refused by 8 in family 002. There
 /// is no default: no bytes stand for a weight that was not heard.
+///
+/// An overloaded bridge has no weight. If bit 3 of CON is set, the bytes are still read, and the value, the kilograms and every difference
+/// are refused by 24, after 8.
 #[derive(Clone, Copy, Debug, PartialEq, Eq, Hash)]
 pub struct Weight {
     /// As the wire and the log have them: W0 W1 W2 CON.
@@ -15,10 +18,11 @@ pub struct Weight {
     pub family: Family,
 }
 
-/// What a terminal shows.
+/// What a terminal shows. If `overload` is true, its digits are no weight: do not show or use them. Ask [`Weight::value`] or
+/// [`Weight::kilograms`], which refuse then.
 #[derive(Clone, Copy, Debug, PartialEq, Eq, Hash)]
 pub struct Reading {
-    /// The six digits, 0 to 999,999.
+    /// The six digits, 0 to 999,999. Of an overloaded bridge they stay only so that its four bytes come back.
     pub number: u32,
     /// How many of them stand after the point, 0 to 7.
     pub point: u8,
@@ -30,7 +34,7 @@ pub struct Reading {
     pub bit5: bool,
     /// The load has come to rest.
     pub settled: bool,
-    /// More lies on the bridge than it can weigh.
+    /// More lies on the bridge than it can weigh: it has no weight.
     pub overload: bool,
     /// Of the terminal that shows it.
     pub family: Family,
@@ -58,7 +62,7 @@ impl Weight {
         Weight { bytes, family }
     }
 
-    /// What the terminal shows, or 8.
+    /// What the terminal shows, or 8. An overload is marked here and is no refusal.
     ///
     /// ```
     /// use quay::{Family, Refusal, Weight};
@@ -68,6 +72,8 @@ impl Weight {
     /// // Bit 6 is an event in 001, and reserved in 002.
     /// assert!(Weight::new(Family::Of001, [0x05, 0x00, 0x00, 0x51]).reading()?.bit6);
     /// assert_eq!(Weight::new(Family::Of002, [0x05, 0x00, 0x00, 0x51]).reading(), Err(Refusal::FieldOutside));
+    /// // Bit 3 is overload: read, and no weight.
+    /// assert!(Weight::new(Family::Of002, [0x00, 0x00, 0x06, 0x18]).reading()?.overload);
     /// # Ok::<(), Refusal>(())
     /// ```
     pub fn reading(self) -> Result<Reading, Refusal> {
@@ -85,35 +91,40 @@ impl Weight {
         })
     }
 
-    /// The exact value in tenths of a milligram, or 8.
+    /// The exact value in tenths of a milligram, or 8, and then 24.
     ///
     /// ```
     /// use quay::{Family, Refusal, Weight};
     /// assert_eq!(Weight::new(Family::Of002, [0x51, 0x02, 0x00, 0x01]).value(), Ok(251_000_000));
+    /// assert_eq!(Weight::new(Family::Of002, [0x51, 0x02, 0x00, 0x09]).value(), Err(Refusal::Overloaded));
     /// assert_eq!(Weight::new(Family::Of002, [0xFF; 4]).value(), Err(Refusal::FieldOutside));
     /// ```
     pub fn value(self) -> Result<i64, Refusal> {
         tenths(raw::value(self.crossing()))
     }
 
-    /// Gross less net in tenths of a milligram, or 8. This weight is the gross one. The difference may be negative. The two may be of
-    /// different families.
+    /// Gross less net in tenths of a milligram, or 8 of either weight, and then 24 of either. This weight is the gross one. The difference
+    /// may be negative. The two may be of different families.
     ///
     /// ```
-    /// use quay::{Family, Weight};
+    /// use quay::{Family, Refusal, Weight};
     /// let gross = Weight::new(Family::Of002, [0x40, 0x84, 0x01, 0x10]);
     /// let net = Weight::new(Family::Of002, [0x80, 0x42, 0x00, 0x10]);
     /// assert_eq!(gross.difference(net), Ok(141_600_000_000)); // 18,440 kg less 4,280 kg
+    /// let overloaded = Weight::new(Family::Of002, [0x00, 0x00, 0x06, 0x18]);
+    /// assert_eq!(overloaded.difference(net), Err(Refusal::Overloaded));
+    /// assert_eq!(overloaded.difference(Weight::new(Family::Of002, [0xFF; 4])), Err(Refusal::FieldOutside));
     /// ```
     pub fn difference(self, net: Weight) -> Result<i64, Refusal> {
         tenths(raw::difference(self.crossing(), net.crossing()))
     }
 
-    /// The weight in kilograms, rounded once, or 8.
+    /// The weight in kilograms, rounded once, or 8, and then 24.
     ///
     /// ```
     /// use quay::{Family, Refusal, Weight};
     /// assert_eq!(Weight::new(Family::Of002, [0x51, 0x02, 0x00, 0x01]).kilograms(), Ok(25.1));
+    /// assert_eq!(Weight::new(Family::Of002, [0x51, 0x02, 0x00, 0x09]).kilograms(), Err(Refusal::Overloaded));
     /// assert_eq!(Weight::new(Family::Of002, [0x00, 0x00, 0xA0, 0x00]).kilograms(), Err(Refusal::FieldOutside));
     /// ```
     pub fn kilograms(self) -> Result<f64, Refusal> {

@@ -10,6 +10,7 @@ use quay::{
 const FAMILIES: [Family; 4] = [Family::Plain, Family::Of000, Family::Of001, Family::Of002];
 const BIT_6: u8 = 0x40;
 const BIT_5: u8 = 0x20;
+const OVERLOAD: u8 = 0x08;
 const WEIGHT_CODES: [(u8, Load); 2] = [(0xC2, Load::Net), (0xC3, Load::Gross)];
 
 fn bytes_with(con: u8) -> [u8; 4] {
@@ -78,20 +79,16 @@ fn each_family_has_its_own_modes_and_plain_has_none() {
     assert_eq!((mode(Family::Plain, 0x11), mode(Family::Plain, 0x11 | BIT_5)), (None, None));
 }
 
+/// Where bit 6 refuses nothing, an overload still refuses every use but the reading.
 #[test]
 fn bit_6_is_refused_in_002_alone_and_in_every_use() {
     let good = Weight::new(Family::Of000, bytes_with(0x11));
     for (family, con) in every_mix() {
         let weight = Weight::new(family, bytes_with(con));
-        let met = [
-            weight.reading().err(),
-            weight.value().err(),
-            weight.kilograms().err(),
-            weight.difference(good).err(),
-            good.difference(weight).err(),
-        ];
-        let wanted = is_refused(family, con).then_some(Refusal::FieldOutside);
-        assert_eq!(met, [wanted; 5], "{family:?} {con:02X}");
+        let met = [weight.value().err(), weight.kilograms().err(), weight.difference(good).err(), good.difference(weight).err()];
+        let of_reading = is_refused(family, con).then_some(Refusal::FieldOutside);
+        let of_value = of_reading.or((con & OVERLOAD != 0).then_some(Refusal::Overloaded));
+        assert_eq!((weight.reading().err(), met), (of_reading, [of_value; 4]), "{family:?} {con:02X}");
     }
 }
 
@@ -179,7 +176,8 @@ fn a_record_breaks_a_rule_by_byte_17() {
     assert_eq!(write_record(unwritten, &mut [0; RECORD_LENGTH]), Err(Refusal::RecordBroken));
 }
 
-/// A log that was written before byte 17 had a meaning: gross 25.1 kg from 1 with bits 6 and 5 set, a wrong check, net minus zero from a serial.
+/// A log that was written before byte 17 had a meaning: gross 25.1 kg from 1 with bits 6 and 5 set, a wrong check, net minus zero from a serial,
+/// overloaded.
 const OLD_LOG: [u8; 60] = [
     0xE8, 0x03, 0, 0, 0, 0, 0, 0, 1, 0x01, 0, 0, 0, 0x61, 0x51, 0x02, 0x00, 0, 0, 0, //
     0xE9, 0x03, 0, 0, 0, 0, 0, 0, 3, 0, 0, 0, 0, 4, 0, 0, 0, 0, 0, 0, //
@@ -190,15 +188,15 @@ const OLD_LOG: [u8; 60] = [
 fn a_log_from_before_is_read_as_plain_and_has_no_mode() {
     let read: Result<Vec<Record>, Broken> = records(&OLD_LOG).collect();
     let heavy = Weight::new(Family::Plain, [0x51, 0x02, 0x00, 0x61]);
-    let light = Weight::new(Family::Plain, [0, 0, 0, 0x98]);
+    let overloaded = Weight::new(Family::Plain, [0, 0, 0, 0x98]);
     let wanted = [
         Record { time: 1000, noted: Noted::Weighed { load: Load::Gross, address: Address::Short(1), weight: heavy } },
         Record { time: 1001, noted: Noted::Refused(Refusal::CheckWrong) },
-        Record { time: 1002, noted: Noted::Weighed { load: Load::Net, address: Address::Serial(70_501), weight: light } },
+        Record { time: 1002, noted: Noted::Weighed { load: Load::Net, address: Address::Serial(70_501), weight: overloaded } },
     ];
     assert_eq!(read.as_deref(), Ok(&wanted[..]));
-    for (weight, kilograms) in [(heavy, 25.1), (light, 0.0)] {
-        assert_eq!(weight.kilograms(), Ok(kilograms));
+    for (weight, kilograms) in [(heavy, Ok(25.1)), (overloaded, Err(Refusal::Overloaded))] {
+        assert_eq!(weight.kilograms(), kilograms);
         assert_eq!(weight.reading().map(|reading| reading.mode()), Ok(None));
     }
     let mut again = [0x55; 60];

@@ -49,6 +49,32 @@ fn the_papers_example_lists_exactly_so() {
     assert_eq!(String::from_utf8(listing_of(FAMILY, &capture, 7)).as_deref(), Ok(wanted));
 }
 
+/// Six hyphens for the digits, also for those of zero; everything else of the line, and the count of weights, as for any other weight.
+#[test]
+fn an_overloaded_weight_lists_hyphens_and_counts_as_a_weight() {
+    let capture = [
+        frame(1, 0xC3, &[0x00, 0x00, 0x06, 0x18]),
+        frame(1, 0xC2, &[0x00, 0x00, 0x00, 0xA8]),
+        frame(1, 0xC3, &[0x99, 0x99, 0x99, 0x2F]),
+        frame(1, 0xC3, &[0x00, 0x00, 0x06, 0x10]),
+    ]
+    .concat();
+    let wanted = |gross: &str, net: &str| {
+        format!(
+            "1 weight gross 1 + ------ 0 1 1{gross}\n2 weight net 1 - ------ 0 0 1{net}\n3 weight gross 1 + ------ 7 0 1{net}\n\
+             4 weight gross 1 + 060000 0 1 0{gross}\ntotal 4 weights 4 refused 0\n"
+        )
+    };
+    for (family, gross, net) in [
+        (Family::Plain, "", ""),
+        (Family::Of000, " gross", " net"),
+        (Family::Of001, " scale0", " scale1"),
+        (Family::Of002, " gross", " net"),
+    ] {
+        assert_eq!(String::from_utf8(listing_of(family, &capture, 9)), Ok(wanted(gross, net)), "{family:?}");
+    }
+}
+
 #[test]
 fn silence_lists_as_a_total_of_nothing() {
     assert_eq!(listing_of(FAMILY, &[], 1), b"total 0 weights 0 refused 0\n");

@@ -1,7 +1,7 @@
 //! The log: written, read, broken, left over, and made of what was heard.
 mod heard;
 
-use heard::{frame, sample};
+use heard::{frame, only_body, sample};
 use quay::{
     record_heard, records, write_record, Address, BodyPlace, Broken, Event, Family, Load, Noted, Reader, Record, Refusal, Role,
     Weight, WirePlace, RECORD_LENGTH,
@@ -36,6 +36,23 @@ fn a_log_is_read_back_as_it_was_written() {
     let read: Result<Vec<Record>, Broken> = records(&log_of(&three())).collect();
     assert_eq!(read.as_deref(), Ok(&three()[..]));
     assert_eq!(records(&[]).next(), None);
+}
+
+/// What has no value is not lost: each of the 20 bytes comes back, in every family.
+#[test]
+fn an_overloaded_weighing_is_noted_with_its_bytes() {
+    for family in [Family::Plain, Family::Of000, Family::Of001, Family::Of002] {
+        let weight = Weight::new(family, [0x00, 0x00, 0x06, 0x18]);
+        let body = only_body(&frame(2, 0xC3, &weight.bytes));
+        let heard = record_heard(10, Role::Reply, family, Event::Frame { wire: WirePlace(10), body: &body });
+        let item = weighed(10, Load::Gross, Address::Short(2), weight);
+        assert_eq!(heard, Ok(Some(item)), "{family:?}");
+        let log = log_of(&[item]);
+        assert_eq!(log, [10, 0, 0, 0, 0, 0, 0, 0, 1, 2, 0, 0, 0, 0x18, 0, 0, 0x06, family.number(), 0, 0]);
+        let read: Vec<Record> = records(&log).collect::<Result<_, _>>().expect("a whole log");
+        assert_eq!((read.as_slice(), log_of(&read)), (&[item][..], log), "{family:?}");
+        assert_eq!(weight.value(), Err(Refusal::Overloaded));
+    }
 }
 
 /// The older bridges stand at A4 and F0; FD is the highest short address.
@@ -137,7 +154,8 @@ fn a_refusal_that_no_line_can_meet_is_refused() {
     }
 }
 
-/// The morning of the sample as a log: seven weights and five refusals, none of them a weight of nothing but the one that said so.
+/// The morning of the sample as a log: seven weights and five refusals, none of them a weight of nothing but the one that said so. One of
+/// the seven is overloaded and has no value.
 #[test]
 fn the_sample_as_a_log() {
     let mut reader = Reader::new();
@@ -159,4 +177,7 @@ fn the_sample_as_a_log() {
     assert_eq!((read.len(), weights.len()), (12, 7));
     let nothing: Vec<&Weight> = weights.iter().filter(|weight| weight.value() == Ok(0)).collect();
     assert_eq!(nothing, [&MINUS_ZERO]);
+    let overloaded: Vec<&Weight> = weights.iter().filter(|weight| weight.value() == Err(Refusal::Overloaded)).collect();
+    assert_eq!(overloaded, [&Weight::new(FAMILY, [0x60, 0x09, 0x04, 0x18])]);
+    assert_eq!(weights.iter().filter(|weight| weight.value().is_ok()).count(), 6);
 }

@@ -32,19 +32,20 @@ fn each_refusal_has_the_papers_number() {
         write_frame(Address::Short(1), 0xC3, &[], &mut room[..5]).err(),
         step(&[0; 5], 0).err(),
         read_record(&[0; 20]).err(),
+        Weight::new(FAMILY, [0, 0, 0x06, 0x18]).value().err(),
     ];
     let numbers = met.map(|why| why.map(Refusal::number));
-    assert_eq!(numbers, [1, 2, 3, 4, 5, 6, 7, 8, 9, 10, 11].map(Some));
+    assert_eq!(numbers, [1, 2, 3, 4, 5, 6, 7, 8, 9, 10, 11, 24].map(Some));
 }
 
 #[test]
 fn a_refusal_says_its_number_and_goes_back_to_itself() {
-    for number in (1..=11).chain(20..=23).chain([31]) {
+    for number in (1..=11).chain(20..=24).chain([31]) {
         let refusal = Refusal::of_number(number).expect("a refusal of the list");
         assert_eq!(refusal.number(), number);
         assert!(refusal.to_string().starts_with(&format!("refused {number}: ")));
     }
-    assert!((12..=19).chain(24..=30).chain(32..=255).chain([0]).all(|number| Refusal::of_number(number).is_none()));
+    assert!((12..=19).chain(25..=30).chain(32..=255).chain([0]).all(|number| Refusal::of_number(number).is_none()));
 }
 
 #[test]
@@ -68,6 +69,21 @@ fn what_each_reply_says() {
     said(0xC7, &[5, 1, 2, 3, 4, 5, 6], Says::Event { event: 5, bytes: &[1, 2, 3, 4, 5, 6] });
     said(0xCC, &[1, 0, 0, 0, 0xFF], Says::Converter(0xFF_0000_0001));
     said(0xEE, &[5], Says::Error(5));
+}
+
+/// 60 tonnes with the overload bit: the message is good, and its four bytes come back; only their value is refused.
+#[test]
+fn an_overloaded_weight_is_said_and_written_as_any_other() {
+    let weight = Weight::new(FAMILY, [0, 0, 0x06, 0x18]);
+    for (code, load) in [(0xC2, Load::Net), (0xC3, Load::Gross)] {
+        let body = reply(code, &weight.bytes);
+        let message = read_message(Role::Reply, FAMILY, &body).expect("a good message");
+        assert_eq!((message.data, message.says), (&weight.bytes[..], Says::Weight { load, weight }));
+        let mut room = [0; 16];
+        let length = write_message(Role::Reply, FAMILY, Address::Short(2), code, &weight.bytes, &mut room).expect("room enough");
+        assert_eq!(only_body(&room[..length]), body);
+    }
+    assert_eq!(weight.kilograms(), Err(Refusal::Overloaded));
 }
 
 #[test]

@@ -1,12 +1,18 @@
 //! Weights: what is refused is never a number, and what weighs nothing says so itself.
-use quay::{Family, Refusal, Weight};
+use quay::{Family, Reading, Refusal, Weight};
 
 const MINUS: u8 = 0x80;
 const SETTLED: u8 = 0x10;
 const OVERLOAD: u8 = 0x08;
+const BIT_6: u8 = 0x40;
 
 fn weight_of(bytes: [u8; 4]) -> Weight {
     Weight::new(Family::Of002, bytes)
+}
+
+/// What each use of a weight that asks for its value is refused by: value, kilograms, and the difference as gross and as net of another.
+fn refusals_of(weight: Weight, other: Weight) -> [Option<Refusal>; 4] {
+    [weight.value().err(), weight.kilograms().err(), weight.difference(other).err(), other.difference(weight).err()]
 }
 
 #[test]
@@ -21,13 +27,55 @@ fn minus_zero_keeps_its_sign_and_weighs_plus_zero() {
 }
 
 #[test]
-fn overload_is_marked_and_does_not_take_the_weight_away() {
-    let weight = weight_of([0x60, 0x09, 0x04, SETTLED | OVERLOAD]);
-    let reading = weight.reading().expect("a good weight");
+fn an_overloaded_bridge_is_read_and_has_no_weight() {
+    let bytes = [0x60, 0x09, 0x04, SETTLED | OVERLOAD];
+    let weight = weight_of(bytes);
+    let reading = weight.reading().expect("an overload is no refusal of the reading");
     assert!(reading.overload && reading.settled && !reading.minus);
-    assert_eq!((reading.number, reading.point), (40_960, 0));
-    assert_eq!(weight.value(), Ok(409_600_000_000));
-    assert!(!weight_of([0x60, 0x09, 0x04, SETTLED]).reading().expect("a good weight").overload);
+    assert_eq!((reading.number, reading.point, weight.bytes), (40_960, 0, bytes));
+    let good = weight_of([0x60, 0x09, 0x04, SETTLED]);
+    assert_eq!(refusals_of(weight, good), [Some(Refusal::Overloaded); 4]);
+    assert_eq!(weight.difference(weight), Err(Refusal::Overloaded), "it does not weigh nothing, less itself");
+    assert!(!good.reading().expect("a good weight").overload);
+    assert_eq!(refusals_of(good, good), [None; 4]);
+    assert_eq!(good.value(), Ok(409_600_000_000));
+}
+
+/// Zero and minus zero among them: an overloaded zero is no weight of nothing.
+#[test]
+fn no_digits_point_sign_or_family_make_an_overload_a_weight() {
+    let good = weight_of([0, 0, 0, SETTLED]);
+    for family in [Family::Plain, Family::Of000, Family::Of001, Family::Of002] {
+        for [w0, w1, w2] in [[0, 0, 0], [0x01, 0, 0], [0x99, 0x99, 0x99]] {
+            for con in (0..8).flat_map(|point| [point, MINUS | point, SETTLED | point]) {
+                let light = Weight::new(family, [w0, w1, w2, con]);
+                assert_eq!(refusals_of(light, good), [None; 4], "{light:?}");
+                let overloaded = Weight::new(family, [w0, w1, w2, con | OVERLOAD]);
+                let reading = overloaded.reading().expect("an overload is no refusal of the reading");
+                assert_eq!(Ok(reading), light.reading().map(|reading| Reading { overload: true, ..reading }));
+                assert_eq!(refusals_of(overloaded, good), [Some(Refusal::Overloaded); 4], "{overloaded:?}");
+            }
+        }
+    }
+}
+
+/// 8 of either weight, then 24 of either, whichever of the two is the gross one.
+#[test]
+fn what_is_no_weight_is_refused_ahead_of_an_overload() {
+    let good = weight_of([0x51, 0x02, 0x00, SETTLED]);
+    let overloaded = weight_of([0x51, 0x02, 0x00, SETTLED | OVERLOAD]);
+    for con in [SETTLED, SETTLED | OVERLOAD] {
+        for bytes in [[0x5A, 0x02, 0x00, con], [0x51, 0x02, 0xA0, con], [0x51, 0x02, 0x00, con | BIT_6]] {
+            let unread = weight_of(bytes);
+            assert_eq!(unread.reading(), Err(Refusal::FieldOutside), "{unread:?}");
+            for other in [good, overloaded, unread] {
+                assert_eq!(refusals_of(unread, other), [Some(Refusal::FieldOutside); 4], "{unread:?} {other:?}");
+            }
+        }
+    }
+    // Bit 6 is free in the other families, so that the overload is what is left.
+    let event = Weight::new(Family::Of001, [0x51, 0x02, 0x00, SETTLED | OVERLOAD | BIT_6]);
+    assert_eq!(refusals_of(event, good), [Some(Refusal::Overloaded); 4]);
 }
 
 #[test]

@@ -52,7 +52,7 @@ use Rattle.demands.specs.LogsFromBefore.{highestBefore, highestSince, go
 use Rattle.demands.proofs.ByFamily.{same-family, digits, bit, so-reads, read-by, read-of, read-family, above-unread, reserved-unread, refused-by-8}
 use Rattle.demands.proofs.Logs.{noted-good}
 use Rattle.demands.proofs.LogsFromBefore.{stays-record}
-use Rattle.demands.proofs.Unheard.{not-met}
+use Rattle.demands.proofs.TableCounts.{not-met}
 
 -- ---- as before
 
@@ -74,10 +74,10 @@ legal-as-before reading legal =
       packed = rw legal;
       same = rw was;
       number = refl;
-      value = rw (legal, was);
-      difference = λ net also. rw (legal, also, was, was-legal net also);
-      kilograms = rw (legal, was);
-      line = λ number load address. refl;
+      value = λ off. rw (legal, off, was);
+      difference = λ off net also also-off. rw (legal, also, off, also-off, was, was-legal net also);
+      kilograms = λ off. rw (legal, off, was);
+      line = λ off number load address. rw off;
     }
 
 and-true : (test : Bool) → (test && true) ≡ test
@@ -97,7 +97,7 @@ legal-where-before reading free = by-family (reading .family) (reading .bit6) re
     by-family Of002 true is so = absurd (free (is, so))
 
 pub plain-line : PlainLine
-plain-line reading plain number load address = rw plain
+plain-line reading plain off number load address = rw (plain, off)
 
 -- ---- four bytes
 

@@ -37,30 +37,30 @@ use Rattle.demands.proofs.TableTotals.{together-nothing, poured-togethe
 -- ---- a log or a record into a lent table
 
 -- what is read, and how it ends
-abbrev lent : Log → Table → Filled
+abbrev pub lent : Log → Table → Filled
 lent given table = cond (soundTable table) (poured (given .records) (given .ending) table) (stays table SumBeyond)
 
-abbrev alone : Record → Log
+abbrev pub alone : Record → Log
 alone item = record { records = item ∷ []; ending = Good }
 
-log-lent : (log : List ℕ) (table : Table) → filledFrom log table ≡ lent (wholeLog log) table
+pub log-lent : (log : List ℕ) (table : Table) → filledFrom log table ≡ lent (wholeLog log) table
 unfolding filledFrom
 log-lent log table = refl
 
-record-lent : (item : Record) (table : Table) → entered item table ≡ lent (alone item) table
+pub record-lent : (item : Record) (table : Table) → entered item table ≡ lent (alone item) table
 unfolding entered
 record-lent item table = rw (put-alone item table)
 
 module _ (given : Log) (table : Table) where
   -- what is so of the poured and of the table as it was is so
-  by-soundness : (P : Filled → Type 0) → P (poured (given .records) (given .ending) table) → P (stays table SumBeyond) → P (lent given table)
+  pub by-soundness : (P : Filled → Type 0) → P (poured (given .records) (given .ending) table) → P (stays table SumBeyond) → P (lent given table)
   by-soundness P filled stayed = by-test (soundTable table)
     where
       by-test : (test : Bool) → P (cond test (poured (given .records) (given .ending) table) (stays table SumBeyond))
       by-test true = filled
       by-test false = stayed
 
-  abbrev steps : Poured (given .ending) (given .records) table (poured (given .records) (given .ending) table)
+  abbrev pub steps : Poured (given .ending) (given .records) table (poured (given .records) (given .ending) table)
   steps = pours (given .records) (given .ending) table
 
 sound-filled : (log : List ℕ) (table : Table) → soundTable table ≡ true → filledFrom log table ≡ poured (wholeLog log .records) (wholeLog log .ending) table

@@ -23,6 +23,8 @@ pub mod Messages
 pub mod Noted
 pub mod OlderBridges
 pub mod OnTheWire
+pub mod Overload
+pub mod OverloadShown
 pub mod ParcelChecks
 pub mod ParcelFields
 pub mod ParcelFrames
@@ -52,4 +54,5 @@ pub mod Unheard
 pub mod WalkersWalk
 pub mod WalksShown
 pub mod Weighings
+pub mod WeightLines
 pub mod WrittenDown

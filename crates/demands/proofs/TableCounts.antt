@@ -1,19 +1,20 @@
 -- Shown: what a good record counts as is what a person says of its fields, and a cell into which it went holds that much more, and stays sound.
 -- Why: a good weighing notes the reading of its own four bytes, whose settled and overload bits and whose value are read from the same bytes.
-use Prim.Native.Nat.{_+_, _≤_}
+use Prim.Native.Nat.{ℕ, _+_, _≤_}
 use mathlib.Core.Path.{_≡_, _∙_, refl, sym, subst}
 use mathlib.Core.Bool.{Bool, true, false, not, cond, _&&_, true≢false, and-eq-true-iff}
 use native.Mathlib.Omega.{arith}
 use borrow.Author.Tests.{eqb-true, ltb-true, ltb-false, le-leb, le-ltb}
 use lib.Dec.{eqb, ltb}
-use lib.IntN.{pos, natAbs, _+ℤ_, +ℤ-idr}
+use lib.IntN.{ℤ, pos, natAbs, _+ℤ_, +ℤ-idr}
 use Rattle.refusal.specs.declared.Refusal.{Refusal}
-use Rattle.refusal.specs.declared.Refusal.the-variants.{FieldOutside, RecordBroken, CountFull, SumBeyond}
+use Rattle.refusal.specs.declared.Refusal.the-variants.{FieldOutside, RecordBroken, CountFull, Overloaded, SumBeyond}
 use Rattle.weight.specs.declared.families.Family.{Family}
 use Rattle.weight.specs.declared.families.FamilyNamed.{FamilyNamed}
 use Rattle.weight.specs.declared.families.FamilyNamed.the-variants as named-as
 use Rattle.weight.specs.declared.Reading.{Reading}
 use Rattle.weight.specs.declared.Read.the-variants as read-as
+use Rattle.weight.specs.declared.Value.the-variants as value-as
 use Rattle.weight.specs.Digits.{allDecimal, digitsOf}
 use Rattle.weight.specs.Families.{terminal, familyNamed, allowed}
 use Rattle.weight.specs.Status.{sixth, settled, overload, marked, readingOf}
@@ -30,7 +31,7 @@ use Rattle.hour_cell.specs.declared.counting.CountsAs.the-variants.{Weight, Met
 use Rattle.hour_cell.specs.declared.adding.Added.{Added}
 use Rattle.hour_cell.specs.declared.adding.Added.the-variants as added-as
 use Rattle.hour_cell.specs.Cells.{largest, sound, wouldPass, withWeight, withRefused}
-use Rattle.hour_cell.specs.Counting.{byReading, byNoted, countsAs}
+use Rattle.hour_cell.specs.Counting.{byValue, byReading, byNoted, countsAs}
 use Rattle.hour_cell.proofs.Sums.{grown-size, counts-size}
 use Rattle.demands.specs.Tables.{settledGross, refusedRecord, tenthsOf}
 
@@ -50,6 +51,15 @@ bytesRight item family = allDecimal (item .w0) (item .w1) (item .w2) && allowed 
 abbrev readingShown : Record → Family → Reading
 readingShown item family = readingOf family (digitsOf (item .w0) (item .w1) (item .w2)) (item .status)
 
+-- where the tests hold there is no overload, so the value is the digits'
+by-marks : (gross settles over : Bool) (tenths : ℤ)
+    → cond (gross && settles && not over) (byValue (cond over (value-as.Refused Overloaded) (value-as.Tenths tenths))) Nothing
+    ≡ cond (gross && settles && not over) (Weight tenths) Nothing
+by-marks gross settles false tenths = refl
+by-marks true true true tenths = refl
+by-marks true false true tenths = refl
+by-marks false settles true tenths = refl
+
 by-family : (item : Record) (family : Family) → readable (readAs family (weightBytes item)) ≡ true → byNoted (item .kind) (readAs family (weightBytes item)) ≡ weighed item
 unfolding readAs byReading valueOf
 by-family item family = by-test (bytesRight item family) refl
@@ -59,7 +69,7 @@ by-family item family = by-test (bytesRight item family) refl
         → byNoted (item .kind) (cond right (read-as.Good (readingShown item family)) (read-as.Refused FieldOutside)) ≡ weighed item
     by-test true right e =
         let (digits, bit) = and-eq-true-iff (allDecimal (item .w0) (item .w1) (item .w2)) (allowed (terminal family .sixth) (marked sixth (item .status))) .0 right in
-        rw (legal-of-read family (weightBytes item) digits bit)
+        rw (legal-of-read family (weightBytes item) digits bit) (by-marks (eqb (item .kind) 1) (marked settled (item .status)) (marked overload (item .status)) (tenthsOf item))
     by-test false right e = absurd (true≢false (sym e))
 
 by-name : (item : Record) (named : FamilyNamed) → readable (readNamed named (weightBytes item)) ≡ true → byNoted (item .kind) (readNamed named (weightBytes item)) ≡ weighed item
@@ -86,7 +96,7 @@ weighed-by-hand item = by-kind (eqb (item .kind) 1)
     by-kind true = refl
     by-kind false = refl
 
-counts-by-hand : (item : Record) → good item ≡ true → countsAs item ≡ byHand item
+pub counts-by-hand : (item : Record) → good item ≡ true → countsAs item ≡ byHand item
 unfolding countsAs
 counts-by-hand item is-good = rw is-good (by-met (wasMet item) refl)
   where
@@ -94,6 +104,31 @@ counts-by-hand item is-good = rw is-good (by-met (wasMet item) refl)
         → cond met Met (byNoted (item .kind) (weightNoted item)) ≡ cond met Met (cond (settledGross item) (Weight (tenthsOf item)) Nothing)
     by-met true e = refl
     by-met false e = rw (weighing-noted item is-good e) (by-reading item (weighing-readable item is-good e) ∙ weighed-by-hand item)
+
+broken-counts : (item : Record) → good item ≡ false → countsAs item ≡ Refused RecordBroken
+unfolding countsAs
+broken-counts item bad = rw bad
+
+-- so a record is refused by 11 alone: no value is asked that could be refused
+pub refused-broken : (item : Record) (why : Refusal) → countsAs item ≡ Refused why → why ≡ RecordBroken
+refused-broken item why e = by-good (good item) refl
+  where
+    by-hand : (met gross : Bool) → cond met Met (cond gross (Weight (tenthsOf item)) Nothing) ≡ Refused why → why ≡ RecordBroken
+    by-hand true gross e = let clash : _≡_ {A = ℕ} 0 1 = cc in absurd (omega arith)
+    by-hand false true e = let clash : _≡_ {A = ℕ} 0 1 = cc in absurd (omega arith)
+    by-hand false false e = let clash : _≡_ {A = ℕ} 0 1 = cc in absurd (omega arith)
+
+    by-good : (is-good : Bool) → good item ≡ is-good → why ≡ RecordBroken
+    by-good true is = by-hand (refusedRecord item) (settledGross item) (sym (counts-by-hand item is) ∙ e)
+    by-good false is = let same : Refused why ≡ Refused RecordBroken = sym e ∙ broken-counts item is in cc
+
+-- a weighing is of kind 1 or 2, and so was not met
+pub not-met : (item : Record) → weighs item ≡ true → wasMet item ≡ false
+not-met item weighing = by-gross (eqb (item .kind) 1) refl
+  where
+    by-gross : (gross : Bool) → eqb (item .kind) 1 ≡ gross → wasMet item ≡ false
+    by-gross true e = rw (eqb-true (item .kind) 1 e)
+    by-gross false e = rw (eqb-true (item .kind) 2 (rw e at weighing))
 
 -- kind 3 is not kind 1
 met-only : (item : Record) → refusedRecord item ≡ true → settledGross item ≡ false
@@ -213,10 +248,6 @@ module _ (item : Record) (cell : Cell) where
   by-counts false true e f counts = one-weight counts e f
   by-counts false false e f counts = nothing-more e f
 
-  broken-counts : good item ≡ false → countsAs item ≡ Refused RecordBroken
-  unfolding countsAs
-  broken-counts bad = rw bad
-
   went : Went item cell (added item cell)
   unfolding added
   went = by-good (good item) refl
@@ -225,7 +256,7 @@ module _ (item : Record) (cell : Cell) where
       by-good true e =
           let counts = counts-by-hand item e in
           rw counts (by-counts (refusedRecord item) (settledGross item) refl refl counts)
-      by-good false e = rw (broken-counts e) (broken e)
+      by-good false e = rw (broken-counts item e) (broken e)
 
   pub grown : (after : Cell) → added item cell ≡ added-as.Cell after → Grown item cell after
   grown after e = subst (Went item cell) e went

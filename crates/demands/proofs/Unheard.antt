@@ -1,12 +1,11 @@
 -- Shown: nothing that is no weighing ever reads as a weight: not a record of kind 3, not what crosses in place of a record or a message; and what
 -- is one does, with its own four bytes. Why: a record's kind is asked ahead of its bytes, and what crosses without a weight has no digits.
-use Prim.Native.Nat.{ℕ, _*_, _-_, _^_, _<_}
-use mathlib.Core.Path.{_≡_, _∙_, refl, sym}
-use mathlib.Core.Bool.{Bool, true, false, and-eq-true-iff}
+use Prim.Native.Nat.{ℕ, _<_}
+use mathlib.Core.Path.{_≡_, _∙_, refl, sym, ap}
+use mathlib.Core.Bool.{Bool, true, false, true≢false, and-eq-true-iff}
 use mathlib.Core.List.{List}
 use native.Mathlib.Omega.{arith}
-use borrow.Author.Tests.{eqb-true}
-use lib.Dec.{T, eqb}
+use lib.Dec.{T}
 use lib.Pow.{areBytes}
 use lib.IntN.{ℤ}
 use Rattle.refusal.specs.declared.Refusal.the-variants.{FieldOutside, RecordBroken}
@@ -17,8 +16,8 @@ use Rattle.weight.specs.declared.Reading.{Reading}
 use Rattle.weight.specs.declared.Read.{Read}
 use Rattle.weight.specs.declared.Read.the-variants as read-as
 use Rattle.weight.specs.declared.Value.the-variants as value-as
-use Rattle.weight.specs.Bytes.{inRange, readOf, readable}
-use Rattle.weight.specs.Tenths.{signed, valueOf, differenceOf}
+use Rattle.weight.specs.Bytes.{readOf, readable}
+use Rattle.weight.specs.Tenths.{tenthsShown, valueOf, differenceOf}
 use Rattle.weight.proofs.RoundTrip.{bytes-back}
 use Rattle.kilograms.specs.Rounded.{kilogramsOf}
 use Rattle.codes.specs.declared.table.Role.{Role}
@@ -63,7 +62,10 @@ use Rattle.quay_message.specs.declared.messages.QuayWhat.{QuayWhat}
 use Rattle.quay_message.specs.Messages.{whatOut, receivedOut, messageIn}
 use Rattle.quay_log.specs.Records.{noDigits, recordOut, noRecord, readOut, steppedOut, notedOut, recordHeard}
 use Rattle.demands.proofs.ByFamily.{read-legal, undecimal-unread, refused-by-8}
-use Rattle.demands.specs.Unheard.{NotesNoWeight, NotesItsWeight, ReadsAsNone, WeightOf, HandsOnNoWeight, SaysNoWeight, HandsOnItsWeight, saysWeight, SaysItsWeight, NeverAWeight, AlwaysItsWeight}
+use Rattle.demands.proofs.Overload.{overload-refused, refused-across}
+use Rattle.demands.proofs.TableCounts.{not-met}
+use Rattle.demands.specs.Overload.{EightAcross}
+use Rattle.demands.specs.Unheard.{NotesNoWeight, NotesItsWeight, ReadsAsNone, Weighs, WeightOf, HandsOnNoWeight, SaysNoWeight, HandsOnItsWeight, saysWeight, SaysItsWeight, NeverAWeight, AlwaysItsWeight}
 
 -- ---- the weight that a record notes
 
@@ -82,35 +84,30 @@ notes-none item none = record { no-reading = by-kind (wasMet item) refl; its-ref
     by-kind true met = met-unheard item met
     by-kind false unmet = not-good item none unmet
 
--- a weighing is of kind 1 or 2, and so was not met
-pub not-met : (item : Record) → weighs item ≡ true → wasMet item ≡ false
-not-met item weighing = by-gross (eqb (item .kind) 1) refl
-  where
-    by-gross : (gross : Bool) → eqb (item .kind) 1 ≡ gross → wasMet item ≡ false
-    by-gross true e = rw (eqb-true (item .kind) 1 e)
-    by-gross false e = rw (eqb-true (item .kind) 2 (rw e at weighing))
-
--- a reading within its ranges has a value
-value-is : (reading : Reading) → inRange reading ≡ true → valueOf reading ≡ value-as.Tenths (signed (reading .minus) (reading .number * 10 ^ (7 - reading .point)))
-unfolding valueOf
-value-is reading within = rw within
-
--- four bytes that were read, with a byte for CON, are the weight of their reading
-weight-of : (mine : Reading) (bytes : FourBytes) → bytes .con < 256 → readOf bytes ≡ read-as.Good mine → WeightOf mine bytes
+-- four bytes that were read weigh what their reading shows, if it is not overloaded
+weighs-it : (mine : Reading) (bytes : FourBytes) → readOf bytes ≡ read-as.Good mine → mine .overload ≡ false → Weighs mine bytes
 unfolding kilogramsOf differenceOf
-weight-of mine bytes small read =
+weighs-it mine bytes read off =
     let within = read-legal bytes mine read in
-    let is = value-is mine within in
+    let is = overload-refused .value mine .neither within off in
     record {
-      bytes = bytes-back bytes small mine read;
-      reading = rw read;
-      tenths = signed (mine .minus) (mine .number * 10 ^ (7 - mine .point));
+      light = rw (read, off);
+      tenths = tenthsShown mine;
       weighs-so = is;
       value = rw (read, is);
       kilograms = rw (read, is);
       less = λ (net : FourBytes) (other : Reading) (theirs : ℤ) (was : readOf net ≡ read-as.Good other) (so : valueOf other ≡ value-as.Tenths theirs).
           rw (read, was, within, read-legal net other was, is, so);
     }
+
+-- and with a byte for CON they are the weight of their reading
+weight-of : (mine : Reading) (bytes : FourBytes) → bytes .con < 256 → readOf bytes ≡ read-as.Good mine → WeightOf mine bytes
+weight-of mine bytes small read = record {
+  bytes = bytes-back bytes small mine read;
+  reading = rw read;
+  weighs = weighs-it mine bytes read;
+  overloaded = refused-across bytes mine read;
+}
 
 hands-on : (item : Record) → weighs item ≡ true → HandsOnItsWeight item (recordOut item)
 hands-on item weighing = record { kind = refl; bytes = rw weighing; good = refl }
@@ -145,6 +142,14 @@ no-weight weight e = record {
   as-gross = λ (net : FourBytes). rw e;
   as-net = λ (gross : FourBytes). rw e (less-none gross);
 }
+
+-- so do all that cannot be read
+pub eight-across : EightAcross
+eight-across weight unread = by-read (readOf weight) refl unread
+  where
+    by-read : (read : Read) → readOf weight ≡ read → readable read ≡ false → ReadsAsNone weight
+    by-read (read-as.Good reading) was cannot = absurd (true≢false cannot)
+    by-read (read-as.Refused why) was cannot = no-weight weight (was ∙ ap read-as.Refused (refused-by-8 weight why was))
 
 -- three bytes FF read as none, whatever stands for CON and for the family
 no-digits : (con family : ℕ) → ReadsAsNone (record { w0 = noDigits; w1 = noDigits; w2 = noDigits; con = con; family = family })

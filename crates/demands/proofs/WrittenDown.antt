@@ -49,7 +49,7 @@ module _ (family : Family) (body : List ℕ) (message : Message) (was : readMess
 
 -- ---- a body, and an event
 
-body-sound : (family : Family) (body : List ℕ) (received : Received) → readMessage Reply family body ≡ received → Sound (entryOf received)
+pub body-sound : (family : Family) (body : List ℕ) (received : Received) → readMessage Reply family body ≡ received → Sound (entryOf received)
 body-sound family body (received-as.Message message) was = message-sound family body message was
 body-sound family body (received-as.Refused why) was = message-refuses Met body refl refl (λ _. refl) refl refl refl refl Reply family why was
 

@@ -1,5 +1,5 @@
--- 01, "Weight" and "Judged examples", as they stood before 02's request 4: a reading had no family, and a weight line no last field. This page keeps
--- those definitions, so that the promises of today can be set beside them (Families).
+-- 01, "Weight" and "Judged examples", as they stood before 02's request 4: a reading had no family, a weight line no last field, and an overload refused
+-- nothing. This page keeps those definitions, so that the promises of today can be set beside them (Families).
 use Prim.Native.Nat.{ℕ, _+_, _*_, _/_, _%_, _-_, _^_}
 use mathlib.Core.Bool.{Bool, cond, _&&_}
 use mathlib.Core.List.{List, [], _∷_}
@@ -86,10 +86,14 @@ abbrev pub differenceBefore : ReadingBefore → ReadingBefore → Value
 differenceBefore gross net = cond (inRangeBefore gross && inRangeBefore net) (less (valueBefore gross) (valueBefore net)) (Refused FieldOutside)
 
 -- "(event; address, or `0:` and the serial, in decimal; sign bit as + or -; digits; point; settled; overload)"
-abbrev pub fieldsBefore : ReadingBefore → List (List ℕ)
-fieldsBefore reading =
-    (signByte (reading .minus) ∷ []) ∷ sixDigits (reading .number) ∷ oneDigit (reading .point) ∷ (markByte (reading .settled) ∷ [])
+-- with a text for the digits, which are six digits here and may be hyphens since (Overload)
+abbrev pub fieldsWith : List ℕ → ReadingBefore → List (List ℕ)
+fieldsWith digits reading =
+    (signByte (reading .minus) ∷ []) ∷ digits ∷ oneDigit (reading .point) ∷ (markByte (reading .settled) ∷ [])
     ∷ (markByte (reading .overload) ∷ []) ∷ []
+
+abbrev pub fieldsBefore : ReadingBefore → List (List ℕ)
+fieldsBefore reading = fieldsWith (sixDigits (reading .number)) reading
 
 -- the fields of a weight line up to its reading
 abbrev pub ahead : Load → Address → List (List ℕ) → List (List ℕ)

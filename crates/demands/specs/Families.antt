@@ -62,7 +62,8 @@ use Rattle.demands.specs.BeforeFamilies.{ReadingBefore, without, inRange
 use Rattle.demands.specs.LogsFromBefore.{highestBefore, highestSince, WasGood}
 use Rattle.demands.specs.Weighings.{recordsHeard}
 
--- ---- for a legal reading the promises of today and those of before agree, except in the family and in the line's last field
+-- ---- for a legal reading the promises of today and those of before agree, except in the family, in the line's last field, and for an overloaded one
+-- in the value, the difference, the float and the digits of the line (Overload)
 
 pub record AsBefore (reading : Reading) : Type 0 where
   pub in-range : inRangeBefore (without reading) ≡ true
@@ -70,10 +71,11 @@ pub record AsBefore (reading : Reading) : Type 0 where
   pub packed : packedOf reading ≡ packed-as.Bytes four
   pub same : packedBefore (without reading) ≡ bytesBefore (inOrder four)
   pub number : four .family ≡ familyNumber (reading .family)
-  pub value : valueOf reading ≡ valueBefore (without reading)
-  pub difference : (net : Reading) → inRange net ≡ true → differenceOf reading net ≡ differenceBefore (without reading) (without net)
-  pub kilograms : kilogramsOf reading ≡ inKilograms (valueBefore (without reading))
-  pub line : (number : ℕ) (load : Load) (address : Address)
+  pub value : reading .overload ≡ false → valueOf reading ≡ valueBefore (without reading)
+  pub difference : reading .overload ≡ false → (net : Reading) → inRange net ≡ true → net .overload ≡ false
+      → differenceOf reading net ≡ differenceBefore (without reading) (without net)
+  pub kilograms : reading .overload ≡ false → kilogramsOf reading ≡ inKilograms (valueBefore (without reading))
+  pub line : reading .overload ≡ false → (number : ℕ) (load : Load) (address : Address)
       → lineOf number (entry-as.Weight load address reading) ≡ line (decimal number) (ahead load address (fieldsBefore (without reading) ++ modeFields reading))
 
 abbrev pub LegalAsBefore : Type 0
@@ -83,10 +85,10 @@ LegalAsBefore = (reading : Reading) → inRange reading ≡ true → AsBefore re
 abbrev pub LegalWhereBefore : Type 0
 LegalWhereBefore = (reading : Reading) → ((reading .family ≡ Of002) × (reading .bit6 ≡ true) → ⊥) → inRange reading ≡ inRangeBefore (without reading)
 
--- the line of a plain reading is the line that it had
+-- the line of a plain reading is the line that it had, if it is not overloaded
 abbrev pub PlainLine : Type 0
 PlainLine =
-    (reading : Reading) → reading .family ≡ Plain → (number : ℕ) (load : Load) (address : Address)
+    (reading : Reading) → reading .family ≡ Plain → reading .overload ≡ false → (number : ℕ) (load : Load) (address : Address)
     → lineOf number (entry-as.Weight load address reading) ≡ lineBefore number load address (without reading)
 
 -- and the family touches only weights: what is no reply C2 or C3 reads the same by each, and is written the same

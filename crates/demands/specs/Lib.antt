@@ -14,6 +14,8 @@ pub mod Messages
 pub mod Noted
 pub mod OlderBridges
 pub mod OnTheWire
+pub mod Overload
+pub mod OverloadShown
 pub mod Parcels
 pub mod ParcelsShown
 pub mod Reading
@@ -25,5 +27,6 @@ pub mod Unheard
 pub mod WalkersWalk
 pub mod WalksShown
 pub mod Weighings
+pub mod WeightLines
 pub mod Wire
 pub mod WrittenDown

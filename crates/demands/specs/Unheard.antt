@@ -1,12 +1,14 @@
 -- "A weight that wasn't heard must never look like a weight of nothing." A record of kind 3 has zeros where a weighing has its digits (01, "Log
 -- records"). So no function of the library gives a reading, a value or kilograms for it, or for anything else that is no weighing, in Rattle
--- or to another language. The other half: a weighing gives its own, so that a library which refused everything would be seen.
+-- or to another language. The other half: a weighing gives its own reading, and if it is not overloaded its own value and
+-- kilograms, so that a library which refused everything would be seen.
 use Prim.Native.Nat.{ℕ, _<_}
 use mathlib.Core.Path.{_≡_}
 use mathlib.Core.Bool.{true, false}
 use mathlib.Core.List.{List}
 use lib.Dec.{T}
-use lib.IntN.{ℤ, _-ℤ_}
+use lib.IntN.{ℤ, negsuc, _-ℤ_}
+use lib.Ieee.{nan}
 use lib.Pow.{areBytes}
 use Rattle.body.specs.Body.{dataIn}
 use Rattle.refusal.specs.declared.Refusal.{Refusal}
@@ -19,7 +21,7 @@ use Rattle.weight.specs.declared.Read.the-variants as read-as
 use Rattle.weight.specs.declared.Value.the-variants as value-as
 use Rattle.weight.specs.declared.Packed.the-variants as packed-as
 use Rattle.weight.specs.Families.{familyNumber}
-use Rattle.weight.specs.Bytes.{inOrder, readOf, packedOf}
+use Rattle.weight.specs.Bytes.{inOrder, readOf, readable, packedOf}
 use Rattle.weight.specs.Tenths.{valueOf}
 use Rattle.kilograms.specs.declared.Kilograms.the-variants as kilograms-as
 use Rattle.kilograms.specs.Rounded.{rounded}
@@ -73,16 +75,34 @@ pub record ReadsAsNone (weight : FourBytes) : Type 0 where
   pub as-gross : (net : FourBytes) → valueOut (differenceRead (readOf weight) (readOf net)) ≡ valueOut (value-as.Refused FieldOutside)
   pub as-net : (gross : FourBytes) → valueOut (differenceRead (readOf gross) (readOf weight)) ≡ valueOut (value-as.Refused FieldOutside)
 
--- or each answers for one reading, whose four bytes they are: none is refused
-pub record WeightOf (mine : Reading) (weight : FourBytes) : Type 0 where
-  pub bytes : packedOf mine ≡ packed-as.Bytes weight
-  pub reading : readingOut (readOf weight) ≡ goodReading mine
+-- or each answers for one reading that is not overloaded: none is refused, and the overload light is off
+pub record Weighs (mine : Reading) (weight : FourBytes) : Type 0 where
+  pub light : readingOut (readOf weight) .overload ≡ 0
   pub tenths : ℤ
   pub weighs-so : valueOf mine ≡ value-as.Tenths tenths
   pub value : valueOut (valueRead (readOf weight)) ≡ record { value = tenths; refusal = 0 }
   pub kilograms : kilogramsOut (kilogramsRead (readOf weight)) ≡ record { kilograms = rounded tenths; refusal = 0 }
   pub less : (net : FourBytes) (other : Reading) (theirs : ℤ) → readOf net ≡ read-as.Good other → valueOf other ≡ value-as.Tenths theirs
       → valueOut (differenceRead (readOf weight) (readOf net)) ≡ record { value = tenths -ℤ theirs; refusal = 0 }
+
+-- or the reading is overloaded and has no value (02, request 7): the lowest number of 64 bits, and what is no number, beside 24. The reading itself
+-- is not refused; the overload light is on beside its digits
+pub record RefusedAcross (weight : FourBytes) : Type 0 where
+  pub light : readingOut (readOf weight) .overload ≡ 1
+  pub read : readingOut (readOf weight) .refusal ≡ 0
+  pub value : valueOut (valueRead (readOf weight)) ≡ record { value = negsuc 9_223_372_036_854_775_807; refusal = 24 }
+  pub kilograms : kilogramsOut (kilogramsRead (readOf weight)) ≡ record { kilograms = nan; refusal = 24 }
+  pub as-gross : (net : FourBytes) → readable (readOf net) ≡ true
+      → valueOut (differenceRead (readOf weight) (readOf net)) ≡ record { value = negsuc 9_223_372_036_854_775_807; refusal = 24 }
+  pub as-net : (gross : FourBytes) → readable (readOf gross) ≡ true
+      → valueOut (differenceRead (readOf gross) (readOf weight)) ≡ record { value = negsuc 9_223_372_036_854_775_807; refusal = 24 }
+
+-- the reading is that whose four bytes they are
+pub record WeightOf (mine : Reading) (weight : FourBytes) : Type 0 where
+  pub bytes : packedOf mine ≡ packed-as.Bytes weight
+  pub reading : readingOut (readOf weight) ≡ goodReading mine
+  pub weighs : mine .overload ≡ false → Weighs mine weight
+  pub overloaded : mine .overload ≡ true → RefusedAcross weight
 
 -- the four bytes of a record that crossed: W0 W1 W2, and its status for CON; and its family
 abbrev pub handedOn : QuayRecord → FourBytes
@@ -121,7 +141,7 @@ pub record NeverAWeight : Type 0 where
 
 -- ---- the other half
 
--- a good weighing notes a reading, and hands on the weight of it
+-- a good weighing notes a reading, and hands on its four bytes, which weigh what it shows, and have no value if it is overloaded
 pub record NotesItsWeight (item : Record) : Type 0 where
   pub reading : Reading
   pub noted : weightNoted item ≡ read-as.Good reading

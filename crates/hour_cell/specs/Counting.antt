@@ -17,7 +17,7 @@ use Rattle.records.specs.Weighings.{weightNoted}
 use Rattle.hour_cell.specs.declared.counting.CountsAs.{CountsAs}
 use Rattle.hour_cell.specs.declared.counting.CountsAs.the-variants.{Weight, Met, Nothing, Refused}
 
--- by its value; a reading that a good record notes has one
+-- by its value: a reading that a good record notes and that is not overloaded has one, so neither 8 nor 24 is met here
 abbrev pub byValue : Value → CountsAs
 byValue (value-as.Tenths tenths) = Weight tenths
 byValue (value-as.Refused why) = Refused why

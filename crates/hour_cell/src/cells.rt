@@ -7,7 +7,8 @@ ghost use Rattle.hour_cell.specs.Cells.{sound};
 pub(crate) const LARGEST: u64 = 9_999_990_000_000;
 
 // What was noted in an hour of a weekday. Where the count of weights is 0 no weight was heard that counts, and the sum says nothing: `hour_mean`
-// answers "no readings" then. Lorries may have stood there: `refused` tells what came and could not be read, and silence leaves no record.
+// answers "no readings" then. Lorries may have stood there: `refused` tells what came and could not be read, an overloaded lorry stands in neither
+// count, and silence leaves no record.
 pub struct Cell {
     pub weights: u16, // settled gross weights without overload
     pub refused: u16, // records of a refusal met on the line

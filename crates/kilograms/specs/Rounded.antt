@@ -1,4 +1,5 @@
--- 01, "Weight": "The model reads kilograms as a 64-bit float: the value over 10,000,000, rounded once."
+-- 01, "Weight": "The model reads kilograms as a 64-bit float: the value over 10,000,000, rounded once." 02, request 7: "the float" of an overloaded
+-- reading is "refused too".
 use Prim.Native.Nat.{ℕ}
 use mathlib.Core.Bool.{Bool, true, false}
 use lib.IntN.{ℤ, pos, negsuc, natAbs}
@@ -23,7 +24,7 @@ perKilogram = 10_000_000
 unfoldable pub rounded : ℤ → Float
 rounded value = round binary64 (negative value) (natAbs value) perKilogram
 
--- each case of a value; a refusal stays what it is
+-- each case of a value; a refusal, 8 or 24, stays what it is
 abbrev pub inKilograms : Value → Kilograms
 inKilograms (Tenths value) = Number (rounded value)
 inKilograms (NoValue why) = Refused why

@@ -14,7 +14,7 @@ pub enum Kilograms {
 // Tenths of a milligram in a kilogram.
 const TENTHS: f64 = 10000000.0;
 
-// The value of a reading over 10,000,000, rounded once.
+// The value of a reading over 10,000,000, rounded once; or the value's refusal, 8 or 24: an overloaded bridge has no weight (02, request 7).
 pub fn kilograms_of(reading: Reading) -> Kilograms
     ensures { λ r. ⌜ r ≡ kilogramsOf reading ⌝ }
 {

@@ -1,8 +1,8 @@
 -- Shown: the pieces of a line, put ahead of each other from its end on, are the line; and it is there to be read.
 -- Why: pieces ahead of each other are one piece, and each is what the definition names next.
 use Prim.Native.Nat.{ℕ, _-_, _≤_}
-use mathlib.Core.Path.{_≡_, _∙_, ap}
-use mathlib.Core.List.{List, _++_, append-assoc, append-nil}
+use mathlib.Core.Path.{_≡_, _∙_, sym, ap, subst}
+use mathlib.Core.List.{List, [], _∷_, _++_, append-assoc, append-nil}
 use native.Mathlib.Omega.{arith}
 use lib.ListN.{length, take, drop, length-drop, drop-of-length-le}
 use lib.Seq.{take-all}
@@ -10,10 +10,18 @@ use Rattle.body.specs.declared.addresses.Address.{Address}
 use Rattle.codes.specs.declared.table.Load.{Load}
 use Rattle.weight.specs.declared.Reading.{Reading}
 use Rattle.entries.specs.declared.entries.Entry.the-variants.{Weight}
-use Rattle.listing.specs.Texts.{spelt, decimal, addressText}
-use Rattle.listing.specs.Lines.{rest, loadText, readingFields, lineOf}
+use Rattle.listing.specs.Texts.{spelt, decimal, addressText, signByte}
+use Rattle.listing.specs.Lines.{rest, loadText, markFields, digitsField, readingFields, lineOf}
 use Rattle.listing.specs.Writing.{Ahead}
 use Rattle.listing.proofs.Putting.{ahead-then}
+
+-- the sign and what is shown for the digits, ahead of the marks
+pub reading-ahead : (reading : Reading) (shown : List ℕ) → digitsField reading ≡ shown → {at a b : ℕ} {k l m : List ℕ}
+    → Ahead (rest (markFields reading)) at k a l → Ahead (spelt " " ++ ((signByte (reading .minus) ∷ []) ++ (spelt " " ++ shown))) a l b m
+    → Ahead (rest (readingFields reading)) at k b m
+reading-ahead reading shown is {at} {b = b} {k = k} {m = m} marks digits =
+    subst (λ (text : List ℕ). Ahead (spelt " " ++ ((signByte (reading .minus) ∷ []) ++ (spelt " " ++ (text ++ rest (markFields reading))))) at k b m) (sym is)
+    (ahead-then (spelt " " ++ ((signByte (reading .minus) ∷ []) ++ (spelt " " ++ shown))) (rest (markFields reading)) marks digits)
 
 -- the pieces of a weight line
 pub weight-ahead : (number : ℕ) (load : Load) (address : Address) (reading : Reading) {at a b c d : ℕ} {k l m n o : List ℕ}

@@ -56,19 +56,27 @@ pub record Listed : Type 0 where
 abbrev lists-as : ℕ → Entry → List ℕ → Listed
 lists-as number entry line = record { number = number; entry = entry; line = line }
 
--- minus zero keeps its sign; an overload keeps its digits
+-- minus zero keeps its sign; an overloaded one shows hyphens for its digits
 abbrev overloaded : Family → Bool → Reading
 overloaded family bit5 = record { minus = true; number = 0; point = 7; bit6 = true; bit5 = bit5; settled = false; overload = true; family = family }
 
+-- 002, settled: sign bit, number, overload
+abbrev shown : Bool → ℕ → Bool → Reading
+shown minus number over =
+    record { minus = minus; number = number; point = 0; bit6 = false; bit5 = false; settled = true; overload = over; family = Of002 }
+
 abbrev pub lines : List Listed
 lines =
-    lists-as 18_446_744_073_709_551_615 (Weight Net (Serial 16_777_215) (overloaded Plain true)) (spelt "18446744073709551615 weight net 0:16777215 - 000000 7 0 1\n")
+    lists-as 18_446_744_073_709_551_615 (Weight Net (Serial 16_777_215) (overloaded Plain true)) (spelt "18446744073709551615 weight net 0:16777215 - ------ 7 0 1\n")
     -- the last field is that of bit 5, by the family
-    ∷ lists-as 1 (Weight Net (Short 1) (overloaded Of000 true)) (spelt "1 weight net 1 - 000000 7 0 1 net\n")
-    ∷ lists-as 2 (Weight Net (Short 1) (overloaded Of000 false)) (spelt "2 weight net 1 - 000000 7 0 1 gross\n")
-    ∷ lists-as 3 (Weight Gross (Short 1) (overloaded Of001 true)) (spelt "3 weight gross 1 - 000000 7 0 1 scale1\n")
-    ∷ lists-as 4 (Weight Gross (Short 1) (overloaded Of001 false)) (spelt "4 weight gross 1 - 000000 7 0 1 scale0\n")
-    ∷ lists-as 5 (Weight Gross (Short 1) (overloaded Of002 true)) (spelt "5 weight gross 1 - 000000 7 0 1 net\n")
+    ∷ lists-as 1 (Weight Net (Short 1) (overloaded Of000 true)) (spelt "1 weight net 1 - ------ 7 0 1 net\n")
+    ∷ lists-as 2 (Weight Net (Short 1) (overloaded Of000 false)) (spelt "2 weight net 1 - ------ 7 0 1 gross\n")
+    ∷ lists-as 3 (Weight Gross (Short 1) (overloaded Of001 true)) (spelt "3 weight gross 1 - ------ 7 0 1 scale1\n")
+    ∷ lists-as 4 (Weight Gross (Short 1) (overloaded Of001 false)) (spelt "4 weight gross 1 - ------ 7 0 1 scale0\n")
+    ∷ lists-as 5 (Weight Gross (Short 1) (overloaded Of002 true)) (spelt "5 weight gross 1 - ------ 7 0 1 net\n")
+    -- minus zero without overload, and 60 tonnes with it
+    ∷ lists-as 6 (Weight Net (Short 1) (shown true 0 false)) (spelt "6 weight net 1 - 000000 0 1 0 gross\n")
+    ∷ lists-as 8 (Weight Gross (Short 1) (shown false 60000 true)) (spelt "8 weight gross 1 + ------ 0 1 1 gross\n")
     ∷ lists-as 10 (Message (Serial 0) 0xA1) (spelt "10 message 0:0 A1\n")
     ∷ lists-as 100 (Message (Short 253) 0x0F) (spelt "100 message 253 0F\n")
     ∷ lists-as 9 (Refused BodyShort) (spelt "9 refused 1\n")

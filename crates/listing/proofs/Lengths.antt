@@ -1,7 +1,8 @@
 -- Shown: how long a line can be, so that a caller knows the room that is always enough: 85 bytes.
 -- Why: a number has at most 20 digits, and every other piece a length of its own.
 use Prim.Native.Nat.{ℕ, _≤_}
-use mathlib.Core.Bool.{Bool, true, false}
+use mathlib.Core.Path.{_≡_, refl}
+use mathlib.Core.Bool.{Bool, true, false, cond}
 use native.Mathlib.Omega.{arith}
 use lib.ListN.{length, length-append}
 use Rattle.refusal.specs.Numbers.{numberOf}
@@ -12,7 +13,7 @@ use Rattle.codes.specs.declared.table.Load.the-variants.{Net, Gross}
 use Rattle.weight.specs.Families.{Called, plainBit, keyCode, netMode, event, scaleNumber, reserved, terminal}
 use Rattle.entries.specs.declared.entries.Entry.{Entry}
 use Rattle.entries.specs.declared.entries.Entry.the-variants.{Nothing, Weight, Message, Refused}
-use Rattle.listing.specs.Texts.{addressText}
+use Rattle.listing.specs.Texts.{spelt, sixDigits, addressText}
 use Rattle.listing.specs.Lines.{rest, loadText, fifthFields, lineOf, totalOf}
 use Rattle.listing.proofs.Decimals.{decimal-size}
 
@@ -23,6 +24,11 @@ load-length Gross = omega arith
 address-length : (address : Address) → length (addressText address) ≤ 22
 address-length (Short address) = omega (arith, decimal-size address .1)
 address-length (Serial serial) = omega (arith, decimal-size serial .1)
+
+-- hyphens stand for as many digits
+shown-length : (over : Bool) (number : ℕ) → length (cond over (spelt "------") (sixDigits number)) ≡ 6
+shown-length true number = refl
+shown-length false number = refl
 
 -- the last field and the end of the line
 mode-length : (called : Called) (set : Bool) → length (rest (fifthFields called set)) ≤ 8
@@ -39,7 +45,7 @@ pub line-length : (number : ℕ) (entry : Entry) → length (lineOf number entry
 line-length number Nothing = omega arith
 line-length number (Weight load address reading) =
     simp length-append
-    (omega (arith, decimal-size number .1, load-length load, address-length address, mode-length (terminal (reading .family) .fifth) (reading .bit5)))
+    (omega (arith, decimal-size number .1, load-length load, address-length address, shown-length (reading .overload) (reading .number), mode-length (terminal (reading .family) .fifth) (reading .bit5)))
 line-length number (Message address code) = simp length-append (omega (arith, decimal-size number .1, address-length address))
 line-length number (Refused why) = simp length-append (omega (arith, decimal-size number .1, decimal-size (numberOf why) .1))
 

@@ -1,7 +1,8 @@
 -- 01, "Judged examples": the lines of a listing, "(event; address, or `0:` and the serial, in decimal; sign bit as + or -; digits; point;
--- settled; overload)"; 02, request 4: "The listing adds one field at the end of a weight line"; "Other messages list as `N message ADDRESS CODE`, the code in two capital hex digits; refusals 1 to 8 all as the third line."
+-- settled; overload)"; "Other messages list as `N message ADDRESS CODE`, the code in two capital hex digits; refusals 1 to 8 all as the third line."
+-- 02, request 4: "The listing adds one field at the end of a weight line"; request 7: "The listing prints six hyphens for the digits".
 use Prim.Native.Nat.{ℕ}
-use mathlib.Core.Bool.{Bool, true, false}
+use mathlib.Core.Bool.{Bool, true, false, cond}
 use mathlib.Core.List.{List, [], _∷_, _++_}
 use Rattle.refusal.specs.Numbers.{numberOf}
 use Rattle.codes.specs.declared.table.Load.{Load}
@@ -38,12 +39,16 @@ fifthFields reserved set = []
 abbrev pub modeFields : Reading → List (List ℕ)
 modeFields reading = fifthFields (terminal (reading .family) .fifth) (reading .bit5)
 
--- the fields of a reading: sign, digits, and then point, settled, overload, and the mode
+-- point, settled, overload, and the mode
 abbrev pub markFields : Reading → List (List ℕ)
 markFields reading = oneDigit (reading .point) ∷ (markByte (reading .settled) ∷ []) ∷ (markByte (reading .overload) ∷ []) ∷ modeFields reading
 
+-- ahead of them the sign and the digits, or six hyphens of an overloaded bridge
+abbrev pub digitsField : Reading → List ℕ
+digitsField reading = cond (reading .overload) (spelt "------") (sixDigits (reading .number))
+
 abbrev pub readingFields : Reading → List (List ℕ)
-readingFields reading = (signByte (reading .minus) ∷ []) ∷ sixDigits (reading .number) ∷ markFields reading
+readingFields reading = (signByte (reading .minus) ∷ []) ∷ digitsField reading ∷ markFields reading
 
 -- the line of an entry; if nothing was heard, there is no line
 abbrev pub lineOf : ℕ → Entry → List ℕ

@@ -156,12 +156,25 @@ fn put_digits(minus: bool, number: u32, text: &mut [u8], at: usize) -> usize
     put(&piece, text, at)
 }
 
+// The sign and six hyphens: an overloaded bridge has no weight (02, request 7).
+fn put_hyphens(minus: bool, text: &mut [u8], at: usize) -> usize
+    requires { ⌜ (9 ≤ at) × (at ≤ length (now text)) ⌝ }
+    ensures { λ r. ⌜ Ahead (spelt " " ++ ((signByte minus ∷ []) ++ (spelt " " ++ spelt "------"))) at (now (text .entry)) r (now (text .exit)) ⌝ }
+{
+    let sign = sign_byte(minus);
+    let piece = [b' ', sign, b' ', b'-', b'-', b'-', b'-', b'-', b'-'];
+    put(&piece, text, at)
+}
+
 // A reading, and the end of the line.
 pub(crate) fn put_reading(reading: Reading, text: &mut [u8], at: usize) -> usize
     requires { ⌜ (23 ≤ at) × (at ≤ length (now text)) ⌝ }
     ensures { λ r. ⌜ Ahead (rest (readingFields reading)) at (now (text .entry)) r (now (text .exit)) × (at ≤ r + 23) ⌝ }
 {
     let behind = put_marks(reading, text, at);
+    if reading.overload {
+        return put_hyphens(reading.minus, text, behind);
+    }
     put_digits(reading.minus, reading.number, text, behind)
 }
 

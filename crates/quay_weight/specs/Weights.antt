@@ -1,4 +1,5 @@
--- Weights for another language. Four bytes and the number of a family go in; a reading, a value or kilograms come out. A refused answer has fields that no weight has.
+-- Weights for another language. Four bytes and the number of a family go in; a reading, a value or kilograms come out. A refused answer has fields that no weight has;
+-- 8 and 24 (an overloaded reading has no value) cross alike.
 use Prim.Native.Nat.{ℕ}
 use mathlib.Core.Bool.{Bool, true, false}
 use lib.IntN.{ℤ, negsuc}

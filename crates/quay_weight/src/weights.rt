@@ -19,7 +19,7 @@ ghost use Rattle.quay_weight.specs.Weights.{mark, goodReading, noReading
 // point together are far above any weight.
 #[repr(C)]
 pub struct QuayReading {
-    pub number: u32, // 0 to 999,999
+    pub number: u32, // 0 to 999,999; no weight where `overload` is 1: ask `quay_value`, which refuses by 24
     pub point: u8, // digits after the point
     pub minus: u8,
     pub bit6: u8,
@@ -30,14 +30,14 @@ pub struct QuayReading {
     pub refusal: u8,
 }
 
-// A signed whole number of tenths of a milligram. If refused, it is the lowest number there is. No weight is so low.
+// A signed whole number of tenths of a milligram. If refused, also for an overload, it is the lowest number there is. No weight is so low.
 #[repr(C)]
 pub struct QuayValue {
     pub value: i64,
     pub refusal: u8,
 }
 
-// A weight in kilograms. If refused, it is not a number.
+// A weight in kilograms. If refused, also for an overload, it is not a number.
 #[repr(C)]
 pub struct QuayKilograms {
     pub kilograms: f64,
@@ -113,7 +113,7 @@ fn kilograms_out(weighed: Kilograms) -> QuayKilograms
     }
 }
 
-// The reading of four bytes, or 8, also for a family that does not exist.
+// The reading of four bytes, or 8, also for a family that does not exist. An overloaded one is read: its bytes come back, and its value is refused.
 #[no_mangle]
 pub extern "C" fn quay_read_weight(weight: FourBytes) -> QuayReading
     ensures { λ r. ⌜ r ≡ readingOut (readOf weight) ⌝ }
@@ -124,7 +124,7 @@ pub extern "C" fn quay_read_weight(weight: FourBytes) -> QuayReading
     }
 }
 
-// The value of a weight in tenths of a milligram, or 8.
+// The value of a weight in tenths of a milligram, or 8, and then 24 if it is overloaded.
 #[no_mangle]
 pub extern "C" fn quay_value(weight: FourBytes) -> QuayValue
     ensures { λ r. ⌜ r ≡ valueOut (valueRead (readOf weight)) ⌝ }
@@ -135,7 +135,7 @@ pub extern "C" fn quay_value(weight: FourBytes) -> QuayValue
     }
 }
 
-// Gross less net in tenths of a milligram, or 8.
+// Gross less net in tenths of a milligram, or 8 of either weight, and then 24 of either.
 #[no_mangle]
 pub extern "C" fn quay_difference(gross: FourBytes, net: FourBytes) -> QuayValue
     ensures { λ r. ⌜ r ≡ valueOut (differenceRead (readOf gross) (readOf net)) ⌝ }
@@ -149,7 +149,7 @@ pub extern "C" fn quay_difference(gross: FourBytes, net: FourBytes) -> QuayValue
     }
 }
 
-// A weight in kilograms as a 64-bit float, or 8.
+// A weight in kilograms as a 64-bit float, or 8, and then 24 if it is overloaded.
 #[no_mangle]
 pub extern "C" fn quay_kilograms(weight: FourBytes) -> QuayKilograms
     ensures { λ r. ⌜ r ≡ kilogramsOut (kilogramsRead (readOf weight)) ⌝ }

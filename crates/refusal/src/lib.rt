@@ -20,6 +20,7 @@ pub enum Refusal {
     BytesMissing, // 21: fewer bytes than length and check of such a message need
     ParcelCheckWrong, // 22: its check wrong
     CountFull, // 23: a count of the weekday and hour table would pass 65,535
+    Overloaded, // 24: the reading is marked overload, so it has no value
     SumBeyond, // 31: a lent cell's sum, sign aside, is beyond its count times 9,999,990,000,000
 }
 
@@ -55,11 +56,12 @@ pub fn number(refusal: Refusal) -> u8
         Refusal::BytesMissing => 21,
         Refusal::ParcelCheckWrong => 22,
         Refusal::CountFull => 23,
+        Refusal::Overloaded => 24,
         Refusal::SumBeyond => 31,
     }
 }
 
-// Whether a line can meet the refusal with this number. The other refusals are of writing, of a log, of the parcel scales and of a table.
+// Whether a line can meet the refusal with this number. The other refusals are of writing, of a log, of the parcel scales, of a table and of a value.
 pub fn line_status(number: u8) -> bool
     ensures { λ r. ⌜ r ≡ lineStatus number ⌝ }
 {
@@ -86,6 +88,7 @@ pub fn of_number(number: u8) -> Named
         21 => Named::Refusal(Refusal::BytesMissing),
         22 => Named::Refusal(Refusal::ParcelCheckWrong),
         23 => Named::Refusal(Refusal::CountFull),
+        24 => Named::Refusal(Refusal::Overloaded),
         31 => Named::Refusal(Refusal::SumBeyond),
         _ => Named::Unknown,
     }

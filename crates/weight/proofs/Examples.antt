@@ -1,11 +1,11 @@
--- Shown: the readings and values of the judged examples E3 and E4, the largest value, a minus zero, and what is refused.
+-- Shown: the readings and values of the judged examples E3 and E4, the largest value, a minus zero, an overloaded bridge, and what is refused.
 -- Why: each side computes to the same.
 use Prim.Native.Nat.{ℕ}
 use mathlib.Core.Path.{_≡_, refl}
 use mathlib.Core.Bool.{Bool, true, false}
 use mathlib.Core.List.{[], _∷_, map}
 use lib.IntN.{pos, negℤ}
-use Rattle.refusal.specs.declared.Refusal.the-variants.{FieldOutside}
+use Rattle.refusal.specs.declared.Refusal.the-variants.{FieldOutside, Overloaded}
 use Rattle.refusal.specs.Numbers.{numberOf}
 use Rattle.weight.specs.declared.families.Family.{Family}
 use Rattle.weight.specs.declared.families.Family.the-variants.{Plain, Of000, Of001, Of002}
@@ -99,6 +99,46 @@ point-of-8 = refl
 pub net-outside : differenceOf e3-reading (shown false 0 8 true) ≡ Refused FieldOutside
 unfolding differenceOf inRange
 net-outside = refl
+
+-- ---- 02, request 7: "24 overload, after 8"; the four bytes come back
+
+abbrev pub overloaded : ℕ → ℕ → Reading
+overloaded number point =
+    record { minus = false; number = number; point = point; bit6 = false; bit5 = false; settled = true; overload = true; family = Of002 }
+
+pub overloaded-is-24 : numberOf Overloaded ≡ 24
+overloaded-is-24 = refl
+
+-- 60 tonnes, and nothing at all; and a number out of its range
+pub overloaded-values :
+    map valueOf (overloaded 60000 0 ∷ overloaded 0 0 ∷ overloaded 1000000 0 ∷ overloaded 0 8 ∷ [])
+    ≡ Refused Overloaded ∷ Refused Overloaded ∷ Refused FieldOutside ∷ Refused FieldOutside ∷ []
+unfolding valueOf inRange
+overloaded-values = refl
+
+-- 8 of either reading, then 24 of either
+pub overloaded-differences :
+    map (differenceOf (overloaded 60000 0)) (e3-reading ∷ overloaded 1 0 ∷ shown false 0 8 true ∷ [])
+    ≡ Refused Overloaded ∷ Refused Overloaded ∷ Refused FieldOutside ∷ []
+unfolding differenceOf valueOf inRange
+overloaded-differences = refl
+
+pub less-overloaded :
+    map (λ (gross : Reading). differenceOf gross (overloaded 60000 0)) (e3-reading ∷ shown false 0 8 true ∷ [])
+    ≡ Refused Overloaded ∷ Refused FieldOutside ∷ []
+unfolding differenceOf valueOf inRange
+less-overloaded = refl
+
+abbrev overloaded-bytes : FourBytes
+overloaded-bytes = record { w0 = 0x00; w1 = 0x00; w2 = 0x06; con = 0x18; family = 3 }
+
+pub overloaded-read : readOf overloaded-bytes ≡ Good (overloaded 60000 0)
+unfolding readOf readAs familyNamed namedIn
+overloaded-read = refl
+
+pub overloaded-packed : packedOf (overloaded 60000 0) ≡ Bytes overloaded-bytes
+unfolding packedOf inRange
+overloaded-packed = refl
 
 -- ---- bits 6 and 5, by the family: each reads four bytes with both set but for 002, which reserves bit 6; a number above 3 names none
 

@@ -1,6 +1,6 @@
 -- Shown: no value is beyond 9,999,990,000,000 either way, and the difference of two values fits 64 bits.
 -- Why: a value is a inRange number times at most 10^7; a difference is at most the two magnitudes together.
-use Prim.Native.Nat.{ℕ, zero, suc, _+_, _*_, _-_, _^_, _≤_}
+use Prim.Native.Nat.{ℕ, zero, suc, _+_, _-_, _≤_}
 use mathlib.Core.Path.{_≡_, refl, _∙_, ap₂}
 use mathlib.Core.Bool.{Bool, true, false, cond}
 use native.Mathlib.Omega.{arith}
@@ -10,25 +10,26 @@ use mir.Syntax.{w64}
 use mir.Val.{SFits, toZ, ofZ}
 use mir.ValLaws.{toZ-ofZ}
 use borrow.Author.Tests.{ltb-true, ltb-false}
-use Rattle.refusal.specs.declared.Refusal.the-variants.{FieldOutside}
+use Rattle.refusal.specs.declared.Refusal.the-variants.{FieldOutside, Overloaded}
 use Rattle.weight.specs.declared.Reading.{Reading}
 use Rattle.weight.specs.declared.Value.the-variants.{Tenths, Refused}
 use Rattle.weight.specs.Bytes.{inRange}
-use Rattle.weight.specs.Tenths.{signed, valueOf}
+use Rattle.weight.specs.Tenths.{tenthsShown, valueOf}
 use Rattle.weight.proofs.Sizes.{legal-number, size-le, abs-signed, fits-64}
 
 -- "The largest is 9,999,990,000,000."
 pub value-bound : (reading : Reading) (value : ℤ) → valueOf reading ≡ Tenths value → natAbs value ≤ 9999990000000
 unfolding valueOf
-value-bound reading value = by-legal (inRange reading) refl
+value-bound reading value = by-tests (inRange reading) (reading .overload) refl
   where
-    by-legal : (good : Bool) → inRange reading ≡ good
-        → cond good (Tenths (signed (reading .minus) (reading .number * 10 ^ (7 - reading .point)))) (Refused FieldOutside) ≡ Tenths value
+    by-tests : (good over : Bool) → inRange reading ≡ good
+        → cond good (cond over (Refused Overloaded) (Tenths (tenthsShown reading))) (Refused FieldOutside) ≡ Tenths value
         → natAbs value ≤ 9999990000000
-    by-legal true good e =
-        let same : value ≡ signed (reading .minus) (reading .number * 10 ^ (7 - reading .point)) = cc in
+    by-tests true false good e =
+        let same : value ≡ tenthsShown reading = cc in
         rw (same, abs-signed) (size-le (reading .number) (reading .point) (legal-number reading good))
-    by-legal false good e = let clash : _≡_ {A = ℕ} 0 1 = cc in omega arith
+    by-tests true true good e = let clash : _≡_ {A = ℕ} 0 1 = cc in omega arith
+    by-tests false over good e = let clash : _≡_ {A = ℕ} 0 1 = cc in omega arith
 
 pub value-fits : (reading : Reading) (value : ℤ) → valueOf reading ≡ Tenths value → SFits w64 value
 value-fits reading value e = let h = value-bound reading value e in fits-64 value (omega arith)

@@ -24,7 +24,7 @@ pub struct Reading {
     pub bit6: bool, // what it means, the family says
     pub bit5: bool, // what it means, the family says
     pub settled: bool,
-    pub overload: bool,
+    pub overload: bool, // if it is set the digits are no weight: `value_of` refuses by 24
     pub family: Family, // of the terminal that shows it
 }
 
@@ -132,7 +132,7 @@ pub fn in_range(reading: Reading) -> bool
     (reading.number <= LARGEST_NUMBER) & (reading.point <= LARGEST_POINT) & allowed
 }
 
-// Refusal 8 of either reading comes before anything else that a value may be refused for.
+// Refusal 8 of either reading comes before 24 of either.
 fn both_in_range(gross: Reading, net: Reading) -> bool
     ensures { λ r. ⌜ r ≡ (inRange gross && inRange net) ⌝ }
 {
@@ -237,19 +237,23 @@ pub fn to_bytes(reading: Reading) -> Packed
     }
 }
 
-// The value of a reading. Every user of a value goes through here.
+// The value of a reading, or 8, and then 24: an overloaded bridge has no weight (02, request 7). Every user of a reading's value goes
+// through here.
 pub fn value_of(reading: Reading) -> Value
     ensures { λ r. ⌜ r ≡ valueOf reading ⌝ }
 {
-    if in_range(reading) {
-        let size = size_of(reading.number, reading.point);
-        Value::Tenths(with_sign(reading.minus, size))
-    } else {
-        Value::Refused(Refusal::FieldOutside)
+    if !in_range(reading) {
+        return Value::Refused(Refusal::FieldOutside);
     }
+    if reading.overload {
+        return Value::Refused(Refusal::Overloaded);
+    }
+    let size = size_of(reading.number, reading.point);
+    Value::Tenths(with_sign(reading.minus, size))
 }
 
-// Gross less net, which may be negative. A reading does not know whether it is gross or net, so this is not asked.
+// Gross less net, which may be negative; or 8 of either reading, and then 24 of either. A reading does not know whether it is gross or net, so
+// this is not asked.
 pub fn gross_less_net(gross: Reading, net: Reading) -> Value
     ensures { λ r. ⌜ r ≡ differenceOf gross net ⌝ }
 {

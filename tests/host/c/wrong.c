@@ -1,9 +1,13 @@
 /* Wrong libraries, to see that the cases see each: linked ahead of libquay.a, and the environment variable QUAY_WRONG names the one function that
  * answers wrongly. Most of them make the mistake that must never happen: what was refused looks like a weight of nothing. A word behind the name says
- * that the function is wrong about the family instead:
+ * that the function is wrong in another way. About the family:
  *   unknown    a family that does not exist passes for plain
  *   unjudged   002 passes for 000, whose bit 6 is free
- *   lost       the family that is told is plain */
+ *   lost       the family that is told is plain
+ * About overload:
+ *   weighed    an overloaded bridge has a weight
+ *   early      24 goes before 8
+ *   emptied    an overloaded weight is not told: its bytes are lost */
 #include "quay.h"
 
 #include <stdbool.h>
@@ -17,14 +21,16 @@
     answer __wrap_quay_##name(__VA_ARGS__); \
     answer __wrap_quay_##name(__VA_ARGS__)
 
+enum { OVERLOAD = 0x08 }; /* bit 3 of CON */
+
 static bool is_wrong(const char *name)
 {
     const char *wrong = getenv("QUAY_WRONG");
     return wrong != NULL && strcmp(wrong, name) == 0;
 }
 
-/* Whether the function is wrong in this way about the family. */
-static bool is_wrong_of_family(const char *name, const char *way)
+/* Whether the function is wrong in the way that a second word says. */
+static bool is_wrong_in(const char *name, const char *way)
 {
     char both[64];
     snprintf(both, sizeof both, "%s %s", name, way);
@@ -33,22 +39,42 @@ static bool is_wrong_of_family(const char *name, const char *way)
 
 static uint8_t family_taken(const char *name, uint8_t family)
 {
-    if (family > QUAY_FAMILY_002 && is_wrong_of_family(name, "unknown"))
+    if (family > QUAY_FAMILY_002 && is_wrong_in(name, "unknown"))
         return QUAY_FAMILY_PLAIN;
-    if (family == QUAY_FAMILY_002 && is_wrong_of_family(name, "unjudged"))
+    if (family == QUAY_FAMILY_002 && is_wrong_in(name, "unjudged"))
         return QUAY_FAMILY_000;
     return family;
 }
 
 static uint8_t family_told(const char *name, uint8_t family)
 {
-    return is_wrong_of_family(name, "lost") ? QUAY_FAMILY_PLAIN : family;
+    return is_wrong_in(name, "lost") ? QUAY_FAMILY_PLAIN : family;
 }
 
 static QuayWeight weight_taken(const char *name, QuayWeight weight)
 {
     weight.family = family_taken(name, weight.family);
+    if (is_wrong_in(name, "weighed"))
+        weight.con &= (uint8_t)~OVERLOAD;
     return weight;
+}
+
+static uint8_t refusal_told(const char *name, uint8_t con, uint8_t refusal)
+{
+    return refusal == QUAY_FIELD_OUTSIDE && (con & OVERLOAD) != 0 && is_wrong_in(name, "early") ? QUAY_OVERLOADED : refusal;
+}
+
+static bool is_emptied(const char *name, uint8_t con)
+{
+    return (con & OVERLOAD) != 0 && is_wrong_in(name, "emptied");
+}
+
+static QuayRecord record_told(const char *name, QuayRecord item)
+{
+    item.family = family_told(name, item.family);
+    if ((item.kind == QUAY_RECORD_GROSS || item.kind == QUAY_RECORD_NET) && is_emptied(name, item.status))
+        item.w0 = item.w1 = item.w2 = 0xFF;
+    return item;
 }
 
 /* The last of the lent bytes is cleared, though nothing was kept there. */
@@ -84,6 +110,8 @@ WRAPPED(QuayMessage, read_message, uint8_t role, uint8_t family, const uint8_t *
     QuayMessage message = __real_quay_read_message(role, family_taken("read_message", family), body, length);
     if (is_wrong("read_message") && message.refusal != 0)
         message.what.weight = (QuayWeight){0, 0, 0, 0, QUAY_FAMILY_PLAIN};
+    if (message.what.says == QUAY_SAYS_WEIGHT && is_emptied("read_message", message.what.weight.con))
+        message.what.weight = (QuayWeight){0xFF, 0xFF, 0xFF, 0xFF, 0xFF};
     message.what.weight.family = family_told("read_message", message.what.weight.family);
     return message;
 }
@@ -93,6 +121,8 @@ WRAPPED(QuayReading, read_weight, QuayWeight weight)
     QuayReading reading = __real_quay_read_weight(weight_taken("read_weight", weight));
     if (is_wrong("read_weight") && reading.refusal != 0)
         reading.number = 0;
+    if (reading.refusal == 0 && is_emptied("read_weight", weight.con))
+        reading.number = UINT32_MAX;
     reading.family = family_told("read_weight", reading.family);
     return reading;
 }
@@ -102,15 +132,19 @@ WRAPPED(QuayValue, value, QuayWeight weight)
     QuayValue value = __real_quay_value(weight_taken("value", weight));
     if (is_wrong("value") && value.refusal != 0)
         value.value = 0;
+    value.refusal = refusal_told("value", weight.con, value.refusal);
     return value;
 }
 
-/* A net that was refused is taken for nothing. */
+/* A net that was refused is taken for nothing. `weighed` looks past the overload of the net alone; `early` looks at the gross ahead of the net. */
 WRAPPED(QuayValue, difference, QuayWeight gross, QuayWeight net)
 {
-    QuayValue value = __real_quay_difference(weight_taken("difference", gross), weight_taken("difference", net));
+    QuayWeight taken = weight_taken("difference", gross);
+    taken.con = gross.con;
+    QuayValue value = __real_quay_difference(taken, weight_taken("difference", net));
     if (is_wrong("difference") && value.refusal != 0)
         value = __real_quay_value(gross);
+    value.refusal = refusal_told("difference", gross.con, value.refusal);
     return value;
 }
 
@@ -120,6 +154,7 @@ WRAPPED(QuayKilograms, kilograms, QuayWeight weight)
     QuayKilograms weighed = __real_quay_kilograms(weight_taken("kilograms", weight));
     if (is_wrong("kilograms") && weighed.kilograms == 0 && (weight.con & 0x80) != 0)
         weighed.kilograms = -0.0;
+    weighed.refusal = refusal_told("kilograms", weight.con, weighed.refusal);
     return weighed;
 }
 
@@ -136,8 +171,7 @@ WRAPPED(QuayWritten, write_record, QuayRecord item, uint8_t *room, size_t length
 WRAPPED(QuayRecord, read_record, const uint8_t *bytes, size_t length)
 {
     QuayRecord item = __real_quay_read_record(bytes, is_wrong("read_record") && length > QUAY_RECORD_BYTES ? QUAY_RECORD_BYTES : length);
-    item.family = family_told("read_record", item.family);
-    return item;
+    return record_told("read_record", item);
 }
 
 /* At the end the place is the log's length. */
@@ -146,7 +180,7 @@ WRAPPED(QuayStepped, step, const uint8_t *log, size_t length, size_t place)
     QuayStepped stepped = __real_quay_step(log, length, place);
     if (is_wrong("step") && place >= length)
         stepped.next = length;
-    stepped.item.family = family_told("step", stepped.item.family);
+    stepped.item = record_told("step", stepped.item);
     return stepped;
 }
 
@@ -156,8 +190,17 @@ WRAPPED(QuayRecord, record_heard, uint64_t time, uint8_t role, uint8_t family, Q
     QuayRecord item = __real_quay_record_heard(time, role, family_taken("record_heard", family), event, body, length);
     if (is_wrong("record_heard") && item.kind == QUAY_RECORD_REFUSED)
         item.w0 = item.w1 = item.w2 = 0;
-    item.family = family_told("record_heard", item.family);
-    return item;
+    return record_told("record_heard", item);
+}
+
+/* The hyphens of a weight's line as digits. No other line has six of them. */
+static void put_digits(uint8_t *line, size_t length)
+{
+    const uint8_t hyphens[] = {'-', '-', '-', '-', '-', '-'};
+    for (size_t at = 0; at + sizeof hyphens <= length; at++) {
+        if (memcmp(line + at, hyphens, sizeof hyphens) == 0)
+            memset(line + at, '0', sizeof hyphens);
+    }
 }
 
 /* Stale bytes are read as the body's. */
@@ -166,7 +209,10 @@ WRAPPED(QuayListed, list_event, uint64_t number, uint8_t family, QuayEvent event
 {
     if (is_wrong("list_event"))
         event.kept = length;
-    return __real_quay_list_event(number, family_taken("list_event", family), event, body, length, room, room_length);
+    QuayListed listed = __real_quay_list_event(number, family_taken("list_event", family), event, body, length, room, room_length);
+    if (is_wrong_in("list_event", "weighed"))
+        put_digits(room, listed.length);
+    return listed;
 }
 
 /* A byte behind the line is cleared. */

@@ -155,6 +155,13 @@ class SaidByName(unittest.TestCase):
 class BothBits(RefusedCase):
     """Each answer beside the model's, for every family and every status byte."""
 
+    def answers(self, wanted: tuple, call: Callable[..., Any], *arguments: Any) -> None:
+        """As the model: (0, answer), or a refusal's number alone."""
+        if len(wanted) == 1:
+            self.refused(wanted[0], call, *arguments)
+        else:
+            self.assertEqual(call(*arguments), wanted[1])
+
     def test_readings(self) -> None:
         for family, four in every_mix():
             asked, answer = quay.Weight.from_bytes(four, family), weight.read_reading(int(family), four)
@@ -167,7 +174,7 @@ class BothBits(RefusedCase):
             self.assertEqual((told.family, told.bit6, told.bit5), (reading.family, reading.six, reading.five))
             self.assertEqual((told.minus, told.settled, told.overload), (reading.minus, reading.settled, reading.overload))
             self.assertEqual(told.mode, model_mode(reading))
-            self.assertEqual(asked.value, weight.value(reading)[1])
+            self.answers(weight.value(reading), getattr, asked, 'value')
 
     def test_a_mode_is_a_word_or_missing_and_never_false(self) -> None:
         modes = {family: set() for family in quay.Family}
@@ -178,15 +185,14 @@ class BothBits(RefusedCase):
         self.assertEqual(list(modes.values()), [{None}, {'net', 'gross'}, scales, {'net', 'gross'}])
 
     def test_differences_of_all_families(self) -> None:
-        asked = [(family, DIGITS + bytes([con])) for family in quay.Family for con in (0x01, 0x21, 0x41, 0x61)]
+        asked = [(family, DIGITS + bytes([con])) for family in quay.Family for con in (0x01, 0x21, 0x41, 0x61, 0x09, 0x49)]
         for gross_family, gross in asked:
             for net_family, net in asked:
                 readings = [weight.read_reading(int(family), four) for family, four in ((gross_family, gross), (net_family, net))]
                 pair = quay.Weight.from_bytes(gross, gross_family), quay.Weight.from_bytes(net, net_family)
-                if all(len(answer) == 2 for answer in readings):
-                    self.assertEqual(quay.difference(*pair), weight.difference(*(answer[1] for answer in readings))[1])
-                else:
-                    self.refused(8, quay.difference, *pair)
+                both = all(len(answer) == 2 for answer in readings)
+                wanted = weight.difference(*(answer[1] for answer in readings)) if both else (8,)
+                self.answers(wanted, quay.difference, *pair)
 
     def test_messages_read_and_written_in_both_roles(self) -> None:
         for family, four in every_mix():
@@ -228,7 +234,9 @@ class RowsByFamily(RefusedCase):
             weighed = len(noted) == 2
             self.assertEqual(row['family'], quay.Family(record.family).word if weighed else None)
             self.assertEqual(row['mode'], model_mode(noted[1]) if weighed else None)
-            self.assertEqual(row['value'], weight.value(noted[1])[1] if weighed else None)
+            valued = weight.value(noted[1]) if weighed else noted
+            self.assertEqual(row['value'], valued[1] if len(valued) == 2 else None)
+            self.assertEqual(row['overload'], bool(noted[1].overload) if weighed else None)
             seen.add((row['kind'], row['family'], row['mode']))
         modes = {'plain': (None,), '000': ('net', 'gross'), '001': ('scale0', 'scale1'), '002': ('net', 'gross')}
         wanted = {(kind, family, mode) for kind in ('gross', 'net') for family in modes for mode in modes[family]}
@@ -243,7 +251,8 @@ class RowsByFamily(RefusedCase):
             self.assertEqual(quay.read_record(quay.write_record(reserved)), reserved)
 
 
-# A log from before byte 17 had a meaning, and its rows as they were then. Bits 6 and 5 are both set in the first.
+# A log from before byte 17 had a meaning, and its rows as they were then. Bits 6 and 5 are both set in the first. The last is overloaded: it was a
+# weight of 0 then, and has no number now.
 OLD_LOG = bytes.fromhex(
     'e803000000000000' '0101000000' '61' '510200' '000000'
     'e903000000000000' '0300000000' '04' '000000' '000000'
@@ -253,8 +262,8 @@ ROWS_BEFORE = [
      'kilograms_exact': Fraction(251, 10), 'sign': '+', 'digits': '000251', 'point': 1, 'settled': False, 'overload': False},
     {'time': 1001, 'kind': 'refusal', 'refusal': 4, 'address': None, 'serial': None, 'value': None, 'kilograms': None,
      'kilograms_exact': None, 'sign': None, 'digits': None, 'point': None, 'settled': None, 'overload': None},
-    {'time': 1002, 'kind': 'net', 'refusal': None, 'address': None, 'serial': 70501, 'value': 0, 'kilograms': 0.0,
-     'kilograms_exact': Fraction(0), 'sign': '-', 'digits': '000000', 'point': 0, 'settled': True, 'overload': True},
+    {'time': 1002, 'kind': 'net', 'refusal': None, 'address': None, 'serial': 70501, 'value': None, 'kilograms': None,
+     'kilograms_exact': None, 'sign': '-', 'digits': None, 'point': 0, 'settled': True, 'overload': True},
 ]
 
 

@@ -17,13 +17,20 @@ import quay
 from test_quay import E1, E3, E4, E6, FAMILY, NO_WEIGHT, RefusedCase, heard
 
 HEAVY = quay.Weighing(1000, quay.Load.GROSS, quay.Address(1), quay.Weight(0x51, 0x02, 0, 0x01, FAMILY))
-LIGHT = quay.Weighing(2**64 - 1, quay.Load.NET, quay.Address(serial=70501), quay.Weight(0, 0, 0, 0xB8, quay.Family.OF_001))
+LIGHT = quay.Weighing(2**64 - 1, quay.Load.NET, quay.Address(serial=70501), quay.Weight(0, 0, 0, 0xB0, quay.Family.OF_001))
 UNREAD = quay.RefusalMet(1001, 4)
 RECORDS = (HEAVY, UNREAD, LIGHT)
 LOG = b''.join(quay.write_record(record) for record in RECORDS)
 BROKEN = bytes(8) + b'\x01\x01' + bytes(3) + b'\x10' + b'\xff\xff\xff' + bytes(3)
 WEIGHT_KEYS = ('address', 'serial', 'value', 'kilograms', 'kilograms_exact', 'sign', 'digits', 'point', 'settled', 'overload', 'family',
                'mode')
+
+
+def shown_of(row: quay.Row) -> object:
+    """A row's digits as the listing shows them, or its refusal."""
+    if row['refusal'] is not None:
+        return row['refusal']
+    return '------' if row['overload'] else row['digits']
 
 
 class Records(RefusedCase):
@@ -79,7 +86,7 @@ class Rows(RefusedCase):
             'kilograms_exact': Fraction(251, 10), 'sign': '+', 'digits': '000251', 'point': 1, 'settled': False, 'overload': False,
             'family': '002', 'mode': 'gross'})
         shown = ('time', 'kind', 'address', 'serial', 'value', 'sign', 'settled', 'overload', 'family', 'mode')
-        self.assertEqual([light[key] for key in shown], [2**64 - 1, 'net', None, 70501, 0, '-', True, True, '001', 'scale1'])
+        self.assertEqual([light[key] for key in shown], [2**64 - 1, 'net', None, 70501, 0, '-', True, False, '001', 'scale1'])
         self.assertEqual((unread['time'], unread['kind'], unread['refusal']), (1001, 'refusal', 4))
 
     def test_every_row_has_the_same_keys(self) -> None:
@@ -170,7 +177,7 @@ class TheExample(unittest.TestCase):
             if kind != 'message':
                 time = example.START_TIME + int(number) - 1
                 wanted.append((time, *(('refusal', int(rest[0])) if kind == 'refused' else (rest[0], rest[3]))))
-        told = [(row['time'], row['kind'], row['digits'] if row['refusal'] is None else row['refusal']) for row in rows]
+        told = [(row['time'], row['kind'], shown_of(row)) for row in rows]
         self.assertEqual(told, wanted)
 
     def test_each_family_has_its_own_listing_and_log(self) -> None:

@@ -1,5 +1,5 @@
 """The friendly part of the Python binding: loading, the line, frames and messages, weights. (Log and listing: test_log.py. Bits 6 and 5 by the
-families: test_families.py.)"""
+families: test_families.py. Overload: test_overload.py.)"""
 from __future__ import annotations
 
 import doctest
@@ -96,10 +96,22 @@ class Loading(unittest.TestCase):
             with self.assertRaisesRegex(quay.LibraryNotLoaded, 'libolder.so.*families'):
                 quay_library._check_version(older, 'libolder.so')
 
+    def test_a_library_that_gives_an_overloaded_bridge_a_weight_is_not_taken(self) -> None:
+        # One from before overload was refused, one that refuses by another number, and this one.
+        for refusal, reason in ((0, 'libolder.so.*overloaded'), (8, 'libolder.so.*overloaded'), (24, None)):
+            older = types.SimpleNamespace(
+                quay_read_weight=lambda weight: quay_library.QuayReading(family=weight.family),
+                quay_value=lambda weight: quay_library.QuayValue(0, refusal if weight.con & 0x08 else 0))
+            if reason is None:
+                quay_library._check_version(older, 'libolder.so')
+                continue
+            with self.assertRaisesRegex(quay.LibraryNotLoaded, reason):
+                quay_library._check_version(older, 'libolder.so')
+
 
 class Refusals(unittest.TestCase):
     def test_each_has_its_meaning(self) -> None:
-        self.assertEqual(sorted(quay.MEANINGS), [*range(1, 12), 20, 21, 22, 23, 31])
+        self.assertEqual(sorted(quay.MEANINGS), [*range(1, 12), 20, 21, 22, 23, 24, 31])
         self.assertIn('check', quay.Refused(4).meaning)
         self.assertEqual(str(quay.Refused(10)), 'refusal 10: log bytes left over, 1 to 19')
 

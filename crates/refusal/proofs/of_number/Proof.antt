@@ -71,9 +71,13 @@ returns-16 c = rw (c .match .keys16)
 
 returns-17 : tie.Need-returns-17
 unfolding namedOf namedIn
-returns-17 c =
+returns-17 c = rw (c .match .keys17)
+
+returns-18 : tie.Need-returns-18
+unfolding namedOf namedIn
+returns-18 c =
     let others = c .match .rest in
-    rw (ne-eqb _ _ (others .0 .0 .0 .0 .0 .0 .0 .0 .0 .0 .0 .0 .0 .0 .0 .1), ne-eqb _ _ (others .0 .0 .0 .0 .0 .0 .0 .0 .0 .0 .0 .0 .0 .0 .1), ne-eqb _ _ (others .0 .0 .0 .0 .0 .0 .0 .0 .0 .0 .0 .0 .0 .1), ne-eqb _ _ (others .0 .0 .0 .0 .0 .0 .0 .0 .0 .0 .0 .0 .1), ne-eqb _ _ (others .0 .0 .0 .0 .0 .0 .0 .0 .0 .0 .0 .1), ne-eqb _ _ (others .0 .0 .0 .0 .0 .0 .0 .0 .0 .0 .1), ne-eqb _ _ (others .0 .0 .0 .0 .0 .0 .0 .0 .0 .1), ne-eqb _ _ (others .0 .0 .0 .0 .0 .0 .0 .0 .1), ne-eqb _ _ (others .0 .0 .0 .0 .0 .0 .0 .1), ne-eqb _ _ (others .0 .0 .0 .0 .0 .0 .1), ne-eqb _ _ (others .0 .0 .0 .0 .0 .1), ne-eqb _ _ (others .0 .0 .0 .0 .1), ne-eqb _ _ (others .0 .0 .0 .1), ne-eqb _ _ (others .0 .0 .1), ne-eqb _ _ (others .0 .1), ne-eqb _ _ (others .1))
+    rw (ne-eqb _ _ (others .0 .0 .0 .0 .0 .0 .0 .0 .0 .0 .0 .0 .0 .0 .0 .0 .1), ne-eqb _ _ (others .0 .0 .0 .0 .0 .0 .0 .0 .0 .0 .0 .0 .0 .0 .0 .1), ne-eqb _ _ (others .0 .0 .0 .0 .0 .0 .0 .0 .0 .0 .0 .0 .0 .0 .1), ne-eqb _ _ (others .0 .0 .0 .0 .0 .0 .0 .0 .0 .0 .0 .0 .0 .1), ne-eqb _ _ (others .0 .0 .0 .0 .0 .0 .0 .0 .0 .0 .0 .0 .1), ne-eqb _ _ (others .0 .0 .0 .0 .0 .0 .0 .0 .0 .0 .0 .1), ne-eqb _ _ (others .0 .0 .0 .0 .0 .0 .0 .0 .0 .0 .1), ne-eqb _ _ (others .0 .0 .0 .0 .0 .0 .0 .0 .0 .1), ne-eqb _ _ (others .0 .0 .0 .0 .0 .0 .0 .0 .1), ne-eqb _ _ (others .0 .0 .0 .0 .0 .0 .0 .1), ne-eqb _ _ (others .0 .0 .0 .0 .0 .0 .1), ne-eqb _ _ (others .0 .0 .0 .0 .0 .1), ne-eqb _ _ (others .0 .0 .0 .0 .1), ne-eqb _ _ (others .0 .0 .0 .1), ne-eqb _ _ (others .0 .0 .1), ne-eqb _ _ (others .0 .1), ne-eqb _ _ (others .1))
 
 pub of-number-spec : {M : Type 1} → statement M
 of-number-spec =
@@ -95,4 +99,5 @@ of-number-spec =
     returns-14
     returns-15
     returns-16
-    returns-17)
+    returns-17
+    returns-18)
