@@ -178,7 +178,7 @@ def _declare(loaded: ctypes.CDLL, path: str) -> None:
 
 def _check_version(loaded: Any, path: str) -> None:
     """A library from before there were families has the same functions, with other arguments and structs: a refusal would not be seen. It does
-    not tell a family back. A later one may still give an overloaded bridge a weight."""
+    not tell a family back. One from before overload was refused still gives an overloaded bridge a weight."""
     told = loaded.quay_read_weight(QuayWeight(family=SOME_FAMILY))
     if (told.family, told.refusal) != (SOME_FAMILY, 0):
         raise _not_loaded(path, 'it does not know the families of terminals, so it is not this version of the quay library')

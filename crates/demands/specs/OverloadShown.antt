@@ -112,7 +112,7 @@ pub record OverloadShown : Type 0 where
       ∷ (Refused FieldOutside ∷ Refused FieldOutside ∷ Refused FieldOutside ∷ Refused FieldOutside ∷ [])
       ∷ (Refused FieldOutside ∷ Refused FieldOutside ∷ Refused FieldOutside ∷ Refused FieldOutside ∷ [])
       ∷ []
-  -- 25.1 kg of a terminal of 001, not settled, overloaded, in another language: read, with its digits and the light
+  -- digits 000251 of a terminal of 001, not settled, overloaded, in another language: read, with its digits and the light
   pub crossed :
       readingOut (readOf (record { w0 = 0x51; w1 = 0x02; w2 = 0x00; con = 0x09; family = 2 }))
       ≡ record { number = 251; point = 1; minus = 0; bit6 = 0; bit5 = 0; settled = 0; overload = 1; family = 2; refusal = 0 }

@@ -104,7 +104,7 @@ HeardLinesTell =
     (family : Family) (heard : Heard) (load : Load) (address : Address) (reading : Reading) → entryHeard family heard ≡ entry-as.Weight load address reading
     → (number : ℕ) → WeightLine (lineOf number (entryHeard family heard)) reading
 
--- the other way round: a line that says `weight` is that of a weight, and the total does not say it
+-- the other way round: a line whose second word is `weight` is that of a weight; the total's second word is a number
 pub record OfAWeight (entry : Entry) : Type 0 where
   pub load : Load
   pub address : Address

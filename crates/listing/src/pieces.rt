@@ -161,8 +161,17 @@ fn put_hyphens(minus: bool, text: &mut [u8], at: usize) -> usize
     requires { ⌜ (9 ≤ at) × (at ≤ length (now text)) ⌝ }
     ensures { λ r. ⌜ Ahead (spelt " " ++ ((signByte minus ∷ []) ++ (spelt " " ++ spelt "------"))) at (now (text .entry)) r (now (text .exit)) ⌝ }
 {
-    let sign = sign_byte(minus);
-    let piece = [b' ', sign, b' ', b'-', b'-', b'-', b'-', b'-', b'-'];
+    let piece = [
+        b' ',
+        sign_byte(minus),
+        b' ',
+        b'-',
+        b'-',
+        b'-',
+        b'-',
+        b'-',
+        b'-',
+    ];
     put(&piece, text, at)
 }
 

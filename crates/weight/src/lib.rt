@@ -1,12 +1,14 @@
 // A weight reading and its four bytes, its value in tenths of a milligram, and gross less net (01, "Weight").
 ghost use mathlib.Core.Path.{_≡_};
-ghost use mathlib.Core.Bool.{_&&_};
+ghost use mathlib.Core.Bool.{_&&_, cond};
 ghost use Prim.Native.Nat.{_*_, _^_, _-_, _≤_, _<_};
 ghost use Rattle.weight.specs.Digits.{decimal, allDecimal, twoDigits, pairOf};
 ghost use Rattle.weight.specs.Families.{terminal, allowed};
 ghost use Rattle.weight.specs.Status.{onAt, statusOf};
 ghost use Rattle.weight.specs.Bytes.{inRange, readAs, readOf, packedOf};
 ghost use Rattle.weight.specs.Tenths.{signed, valueOf, differenceOf};
+ghost use Rattle.weight.specs.declared.Value.the-variants.{Refused};
+ghost use Rattle.refusal.specs.declared.Refusal.the-variants.{FieldOutside, Overloaded};
 use refusal::Refusal;
 
 mod families;
@@ -237,19 +239,28 @@ pub fn to_bytes(reading: Reading) -> Packed
     }
 }
 
+// What stands instead of a value: 8, and 24 only where the reading is within its ranges.
+fn no_value(within: bool) -> Value
+    ensures { λ r. ⌜ r ≡ cond within (Refused Overloaded) (Refused FieldOutside) ⌝ }
+{
+    if within {
+        Value::Refused(Refusal::Overloaded)
+    } else {
+        Value::Refused(Refusal::FieldOutside)
+    }
+}
+
 // The value of a reading, or 8, and then 24: an overloaded bridge has no weight (02, request 7). Every user of a reading's value goes
 // through here.
 pub fn value_of(reading: Reading) -> Value
     ensures { λ r. ⌜ r ≡ valueOf reading ⌝ }
 {
-    if !in_range(reading) {
-        return Value::Refused(Refusal::FieldOutside);
+    let within = in_range(reading);
+    if within & !reading.overload {
+        let size = size_of(reading.number, reading.point);
+        return Value::Tenths(with_sign(reading.minus, size));
     }
-    if reading.overload {
-        return Value::Refused(Refusal::Overloaded);
-    }
-    let size = size_of(reading.number, reading.point);
-    Value::Tenths(with_sign(reading.minus, size))
+    no_value(within)
 }
 
 // Gross less net, which may be negative; or 8 of either reading, and then 24 of either. A reading does not know whether it is gross or net, so
