@@ -161,17 +161,8 @@ fn put_hyphens(minus: bool, text: &mut [u8], at: usize) -> usize
     requires { ⌜ (9 ≤ at) × (at ≤ length (now text)) ⌝ }
     ensures { λ r. ⌜ Ahead (spelt " " ++ ((signByte minus ∷ []) ++ (spelt " " ++ spelt "------"))) at (now (text .entry)) r (now (text .exit)) ⌝ }
 {
-    let piece = [
-        b' ',
-        sign_byte(minus),
-        b' ',
-        b'-',
-        b'-',
-        b'-',
-        b'-',
-        b'-',
-        b'-',
-    ];
+    let ahead = sign_byte(minus);
+    let piece = [b' ', ahead, b' ', b'-', b'-', b'-', b'-', b'-', b'-'];
     put(&piece, text, at)
 }
 
