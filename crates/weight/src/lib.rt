@@ -239,7 +239,7 @@ pub fn to_bytes(reading: Reading) -> Packed
     }
 }
 
-// What stands instead of a value: 8, and 24 only where the reading is within its ranges.
+// What stands instead of a value: 24 of a reading within its ranges, and 8 of any other.
 fn no_value(within: bool) -> Value
     ensures { λ r. ⌜ r ≡ cond within (Refused Overloaded) (Refused FieldOutside) ⌝ }
 {
