@@ -43,10 +43,11 @@ modeFields reading = fifthFields (terminal (reading .family) .fifth) (reading .b
 abbrev pub markFields : Reading → List (List ℕ)
 markFields reading = oneDigit (reading .point) ∷ (markByte (reading .settled) ∷ []) ∷ (markByte (reading .overload) ∷ []) ∷ modeFields reading
 
--- ahead of them the sign and the digits, or six hyphens of an overloaded bridge
+-- the digits, or six hyphens of an overloaded bridge
 abbrev pub digitsField : Reading → List ℕ
 digitsField reading = cond (reading .overload) (spelt "------") (sixDigits (reading .number))
 
+-- the fields of a reading: sign, digits, and then the marks
 abbrev pub readingFields : Reading → List (List ℕ)
 readingFields reading = (signByte (reading .minus) ∷ []) ∷ digitsField reading ∷ markFields reading
 
