@@ -11,7 +11,8 @@ use Rattle.check_misses.specs.Places.{bitsOf, byteAround, bitAt, turnedO
 use Rattle.check_misses.specs.PlacesShown.{zeros, eightAcross}
 use Rattle.check_misses.specs.MissesShown.{asksGross, AtTheEdges}
 use Rattle.check_misses.proofs.Apart.{apart}
-use Rattle.check_misses.proofs.Misses.{eight-neighbours, one-or-two-bits}
+use Rattle.check_misses.proofs.Neighbours.{eight-neighbours}
+use Rattle.check_misses.proofs.OneOrTwo.{one-or-two-bits}
 use Rattle.check_misses.proofs.LowBitFirst.{eight-low-bit-first}
 use Rattle.check_misses.proofs.Filling.{one-filling-passes}
 use Rattle.check_misses.proofs.TurnedOver.{each-bit-turned}

@@ -26,7 +26,7 @@ use Rattle.check_misses.proofs.MovedUp.{zero-below, bit-across}
 use Rattle.check_misses.proofs.Bursts.{in-room}
 use Rattle.check_misses.proofs.Zeros.{one-zero}
 use Rattle.check_misses.proofs.Numbers.{folded-back, bytes-reverse, received-below, numberOf, below-of, between, between-below, differing-ones, findings}
-use Rattle.check_misses.proofs.Misses.{eight-enter, eight-same}
+use Rattle.check_misses.proofs.Neighbours.{eight-enter, eight-same}
 
 -- ---- zeros taken back
 

@@ -27,7 +27,8 @@ use Rattle.check_misses.specs.Places.{bitsOf, turnedOver}
 use Rattle.check_misses.specs.Powers.{power}
 use Rattle.check_misses.specs.Judged.{BothTaken, earnedBy, OneBitRefused}
 use Rattle.check_misses.proofs.Zeros.{power-some}
-use Rattle.check_misses.proofs.Misses.{eight-neighbours, one-or-two-bits}
+use Rattle.check_misses.proofs.Neighbours.{eight-neighbours}
+use Rattle.check_misses.proofs.OneOrTwo.{one-or-two-bits}
 use Rattle.check_misses.proofs.TurnedOver.{length-turned, check-turned}
 
 pub both-taken : BothTaken

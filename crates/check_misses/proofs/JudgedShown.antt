@@ -6,7 +6,7 @@ use Rattle.body.specs.Addresses.{legal, addressIn}
 use Rattle.body.specs.Body.{short, judged, judgedLent}
 use Rattle.line.specs.Listener.{tick, keep, ended, hearIn, hear, heardThen, events}
 use Rattle.check_misses.specs.Places.{byteAround, bitAt, turnedOver, differingBelow}
-use Rattle.check_misses.specs.JudgedShown.{FalseFF, FalseFrame, TurnedShown}
+use Rattle.check_misses.specs.JudgedShown.{FalseFF, FalseFrame, AddedZero, TurnedShown}
 
 pub false-ff : FalseFF
 unfolding differingBelow bitAt byteAround events heardThen hear hearIn ended keep tick judged short legal addressIn received feedAll feedByte feedBits shiftIn
@@ -16,6 +16,11 @@ pub false-frame : FalseFrame
 unfolding differingBelow bitAt byteAround events heardThen hear hearIn ended keep tick judged short legal addressIn received feedAll feedByte feedBits shiftIn
 false-frame = record { one-bit = refl; heard = refl; then-heard = refl }
 
+pub added-zero : AddedZero
+unfolding events heardThen hear hearIn ended keep tick judged short legal addressIn received feedAll feedByte feedBits shiftIn
+added-zero = record { heard = refl }
+
 pub turned-shown : TurnedShown
 unfolding turnedOver byteAround judgedLent short legal addressIn received feedAll feedByte feedBits shiftIn
-turned-shown = record { good = refl; check = refl; address = refl; no-address = refl; five = refl; six = refl }
+turned-shown =
+    record { good = refl; check = refl; address = refl; no-address = refl; five-good = refl; five = refl; six-good = refl; six = refl }

@@ -1,3 +1,4 @@
+pub mod AddedZeros
 pub mod Apart
 pub mod AtTheEdges
 pub mod Bursts
@@ -5,11 +6,12 @@ pub mod Filling
 pub mod Judged
 pub mod JudgedShown
 pub mod LowBitFirst
-pub mod Misses
 pub mod MissesShown
 pub mod MovedUp
+pub mod Neighbours
 pub mod NineBits
 pub mod Numbers
+pub mod OneOrTwo
 pub mod Ones
 pub mod PlacesShown
 pub mod TurnedOver

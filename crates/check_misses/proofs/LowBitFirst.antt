@@ -25,7 +25,7 @@ use Rattle.check_misses.proofs.Windows.{quiet, ends-below, starts-at}
 use Rattle.check_misses.proofs.Zeros.{zeros-of-zero}
 use Rattle.check_misses.proofs.Bursts.{low-alone, any-room, part-passes}
 use Rattle.check_misses.proofs.Numbers.{between, between-below, differing-ones, both-pass, none-between}
-use Rattle.check_misses.proofs.Misses.{eight-enter}
+use Rattle.check_misses.proofs.Neighbours.{eight-enter}
 
 -- ---- sixteen bits, of which only the top ones and the low ones may be set, eight in all
 

@@ -20,7 +20,7 @@ use Rattle.check_misses.proofs.MovedUp.{ones-in, ones-moved}
 use Rattle.check_misses.proofs.Zeros.{zeros-of-zero}
 use Rattle.check_misses.proofs.Bursts.{in-room}
 use Rattle.check_misses.proofs.Numbers.{between, between-below, differing-ones, findings}
-use Rattle.check_misses.proofs.Misses.{window, window-passes, no-part}
+use Rattle.check_misses.proofs.Neighbours.{window, window-passes, no-part}
 
 -- the numbers of nine bits that feed to 0
 abbrev only169 : ℕ → Bool

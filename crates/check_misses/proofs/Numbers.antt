@@ -2,15 +2,16 @@
 -- Why: byte by byte, from the last one on; a byte comes to stand behind a number by entering the register.
 use Prim.Native.Nat.{ℕ, zero, suc, _+_, _-_, _*_, _/_, _%_, _^_, _<_}
 use mathlib.Core.Path.{_≡_, _∙_, refl, sym, ap, ap₂}
-use mathlib.Core.List.{List, [], _∷_, _++_, reverse, reverse-cons, reverse-reverse}
+use mathlib.Core.List.{List, [], _∷_, reverse, reverse-cons, reverse-reverse}
 use native.Mathlib.Decide.{decLe}
 use native.Mathlib.Nat.{zero-div, lt-of-not-le}
 use native.Mathlib.Omega.{arith}
-use mir.Facts.{and-yes, yes-and}
+use mir.Facts.{and-yes}
 use lib.Dec.{T, ltb, eqb, ltb→lt, lit<}
 use lib.ListN.{length, length-reverse, getD}
 use lib.Bits.{bitXor, xor-shr, xor-mod, xor-lt, xor-self, xor-zero-l}
 use lib.Pow.{areBytes, field, mod-mod-pow, shr-shr, pow-add}
+use Rattle.laws.proofs.ByteLists.{bytes-one-more}
 use Rattle.register.proofs.Bits.{bit, bit-cases, xor-assoc, xor-zero-eq}
 use Rattle.low_first.specs.LowFirst.{lowFirst, lowBytes}
 use Rattle.low_first.proofs.Digits.{bytes-back}
@@ -28,17 +29,11 @@ folded-back a b = sym (xor-assoc a a b) ∙ ap (λ (n : ℕ). bitXor n b) (xor-s
 
 -- ---- a list from its last byte on
 
-bytes-and : (bytes : List ℕ) (last : ℕ) → T (areBytes bytes) → T (ltb last 256) → T (areBytes (bytes ++ (last ∷ [])))
-bytes-and [] last all small = yes-and (ltb last 256) _ small tt
-bytes-and (byte ∷ bytes) last all small =
-    let parts = and-yes (ltb byte 256) (areBytes bytes) all in
-    yes-and (ltb byte 256) _ (parts .0) (bytes-and bytes last (parts .1) small)
-
 pub bytes-reverse : (bytes : List ℕ) → T (areBytes bytes) → T (areBytes (reverse bytes))
 bytes-reverse [] all = tt
 bytes-reverse (byte ∷ bytes) all =
     let parts = and-yes (ltb byte 256) (areBytes bytes) all in
-    rw (reverse-cons byte bytes) (bytes-and (reverse bytes) byte (bytes-reverse bytes (parts .1)) (parts .0))
+    rw (reverse-cons byte bytes) (bytes-one-more (reverse bytes) byte (bytes-reverse bytes (parts .1)) (parts .0))
 
 pub received-below : (body : List ℕ) → received body < 256
 unfolding received

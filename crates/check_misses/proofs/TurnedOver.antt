@@ -21,7 +21,7 @@ use Rattle.check_misses.proofs.Ones.{ones}
 use Rattle.check_misses.proofs.MovedUp.{ones-single}
 use Rattle.check_misses.proofs.Zeros.{power-below, zeros-power}
 use Rattle.check_misses.proofs.Numbers.{folded-back, bytes-reverse, received-below, by-last, numberOf, between, differing-ones}
-use Rattle.check_misses.proofs.Misses.{single}
+use Rattle.check_misses.proofs.OneOrTwo.{single}
 
 -- ---- a body from its last byte on
 

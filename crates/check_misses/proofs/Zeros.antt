@@ -1,9 +1,10 @@
 -- Shown: what zeros make of a register. They never make 0 of another one or the same of two; the powers of x below 255 are not 1, the 255th is.
 -- Why: one shift is computed at each of the 256 registers, and the powers one after the other.
-use Prim.Native.Nat.{ℕ, zero, suc, _+_, _^_, _<_}
+use Prim.Native.Nat.{ℕ, zero, suc, _+_, _*_, _/_, _%_, _^_, _<_}
 use mathlib.Core.Path.{_≡_, _∙_, refl, sym, ap}
 use mathlib.Core.Bool.{Bool, not, _||_}
-use native.Mathlib.Nat.{zero-div, add-suc, add-zero, zero-add, suc-add}
+use native.Mathlib.Nat.{zero-div, add-suc, add-zero, add-comm, zero-add, suc-add, mod-lt, eq-zero-or-pos}
+use mathlib.Core.Logic.{⊎-elim}
 use native.Mathlib.Omega.{arith}
 use lib.Dec.{eqb, eqb→eq, lit<}
 use lib.Bits.{bitXor, xor-self, xor-lt}
@@ -78,7 +79,32 @@ power-some place none = absurd (omega (arith, zeros-keep place 1 (lit< tt) (powe
 abbrev notOne : ℕ → Bool
 notOne place = not (eqb (power (suc place)) 1)
 
-pub not-one : (place : ℕ) → 0 < place → place < 255 → power place ≡ 1 → ⊥
+not-one : (place : ℕ) → 0 < place → place < 255 → power place ≡ 1 → ⊥
 unfolding power shiftIn
 not-one zero some h one = absurd (omega (arith, some))
 not-one (suc place) some h one = absurd (rw one at (below notOne 254 tt place (omega (arith, h))))
+
+-- the 255th is: they come round
+first-again : power 255 ≡ 1
+unfolding power shiftIn
+first-again = refl
+
+once-round : (place : ℕ) → power (place + 255) ≡ power place
+once-round place =
+    ap power (add-comm place 255) ∙ sym (zeros-power place 255) ∙ ap (λ (n : ℕ). feedBits place n 0) first-again ∙ power-of-one place
+
+pub come-round : (turns place : ℕ) → power (place + 255 * turns) ≡ power place
+come-round zero place = ap power (add-zero place)
+come-round (suc turns) place =
+    let more : place + 255 * suc turns ≡ place + 255 * turns + 255 = omega arith in
+    ap power more ∙ once-round (place + 255 * turns) ∙ come-round turns place
+
+-- and no power between is 1
+pub one-again : (place : ℕ) → power place ≡ 1 → place % 255 ≡ 0
+one-again place one = ⊎-elim (λ (e : place % 255 ≡ 0). e) (λ (some : 0 < place % 255). absurd (not-one (place % 255) some (mod-lt place (lit< tt)) rest)) (eq-zero-or-pos (place % 255))
+  where
+    parts : place % 255 + 255 * (place / 255) ≡ place
+    parts = omega arith
+
+    rest : power (place % 255) ≡ 1
+    rest = sym (come-round (place / 255) (place % 255)) ∙ ap power parts ∙ one

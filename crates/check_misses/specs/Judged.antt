@@ -15,14 +15,14 @@ use Rattle.line.specs.Readers.{view}
 use Rattle.check_misses.specs.Places.{bitsOf, turnedOver, OnlyInside, InBits}
 use Rattle.check_misses.specs.Misses.{EquallyLong, Different}
 
--- two bodies do not differ so
-pub record DifferByMore (first second : List ℕ) : Type 0 where
+-- neither difference occurs: inside eight neighbouring bits, or, at no more than 31 bytes, in one or two
+pub record NeitherOccurs (first second : List ℕ) : Type 0 where
   pub neighbours : Different first second → OnlyInside 8 first second → ⊥
   pub bits : length first ≤ 31 → InBits 2 first second → ⊥
 
 -- of two different bodies that `judge` takes
 abbrev pub BothTaken : Type 0
-BothTaken = (first second : List ℕ) → EquallyLong first second → judgedLent first ≡ Good → judgedLent second ≡ Good → DifferByMore first second
+BothTaken = (first second : List ℕ) → EquallyLong first second → judgedLent first ≡ Good → judgedLent second ≡ Good → NeitherOccurs first second
 
 -- what a body earns in which one bit was turned over: 4, or 1 where its first byte became 00 and it has under 6 bytes (01: "At a body's end the
 -- order is 1, 4, 5")

@@ -34,12 +34,25 @@ pub record FalseFrame : Type 0 where
   pub heard : events fresh longer ≡ frame 10 6 (0x01 ∷ 0xC3 ∷ 0xE3 ∷ 0x7F ∷ 0xFF ∷ 0xA7 ∷ []) ∷ []
   pub then-heard : events fresh cutShort ≡ frame 6 3 asksGross ∷ []
 
--- E1's body with one bit turned over: its check's last, one of its address, and the one with which its address becomes 00. So too a body of five bytes;
--- one of six is long enough for a serial
+-- a 00 that came in behind E1's check: the check is right, and a frame of four bytes is heard. (As a message it is refused by its length.)
+pub record AddedZero : Type 0 where
+  pub heard : events fresh (0xFF ∷ 0x01 ∷ 0xC3 ∷ 0xE3 ∷ 0x00 ∷ 0xFF ∷ 0xFF ∷ []) ≡ frame 7 4 (0x01 ∷ 0xC3 ∷ 0xE3 ∷ 0x00 ∷ []) ∷ []
+
+-- bodies of five and of six bytes, both good
+abbrev pub ofFive : List ℕ
+ofFive = 0x01 ∷ 0xC3 ∷ 0x00 ∷ 0x00 ∷ 0x4C ∷ []
+
+abbrev pub ofSix : List ℕ
+ofSix = 0x01 ∷ 0xC3 ∷ 0x00 ∷ 0x00 ∷ 0x00 ∷ 0xD0 ∷ []
+
+-- E1's body with one bit turned over: the last of its check, one of its address, and the one with which its address becomes 00. Then it is too short, and
+-- so are five bytes; six are enough for a serial, and it is the check that refuses them
 pub record TurnedShown : Type 0 where
   pub good : judgedLent asksGross ≡ Good
   pub check : judgedLent (turnedOver 0 asksGross) ≡ Refused CheckWrong
   pub address : judgedLent (turnedOver 17 asksGross) ≡ Refused CheckWrong
   pub no-address : judgedLent (turnedOver 16 asksGross) ≡ Refused BodyShort
-  pub five : judgedLent (turnedOver 32 (0x01 ∷ 0xC3 ∷ 0x00 ∷ 0x00 ∷ 0x4C ∷ [])) ≡ Refused BodyShort
-  pub six : judgedLent (turnedOver 40 (0x01 ∷ 0xC3 ∷ 0x00 ∷ 0x00 ∷ 0x00 ∷ 0xD0 ∷ [])) ≡ Refused CheckWrong
+  pub five-good : judgedLent ofFive ≡ Good
+  pub five : judgedLent (turnedOver 32 ofFive) ≡ Refused BodyShort
+  pub six-good : judgedLent ofSix ≡ Good
+  pub six : judgedLent (turnedOver 40 ofSix) ≡ Refused CheckWrong

@@ -1,8 +1,8 @@
 -- 02, request 8: "How much can the check miss? Maintenance asks what a passed check is worth. Prove it for bodies of equal length, check byte included."
 -- It speaks of bodies as lists of bytes, after unstuffing, "not of wires, where a hit can make a false FF".
-use Prim.Native.Nat.{ℕ, _+_, _-_, _≤_, _<_}
+use Prim.Native.Nat.{ℕ, _+_, _-_, _%_, _≤_, _<_}
 use mathlib.Core.Path.{_≡_}
-use mathlib.Core.List.{List, [], _∷_}
+use mathlib.Core.List.{List, [], _∷_, _++_}
 use lib.ListN.{length}
 use lib.Dec.{T}
 use lib.Bits.{bitXor}
@@ -64,6 +64,15 @@ FirstAndLastMissed =
     (body : List ℕ) → T (areBytes body) → length body ≡ 32 → Passes body
     → let first = bitsOf body - 1 in Missed body (turnedOver 0 (turnedOver first body)) (first ∷ 0 ∷ [])
 
+-- Two bits, in bodies of any length: they are missed exactly where they stand 255 places apart, or a multiple of 255.
+pub record MissedAt (high low : ℕ) (first second : List ℕ) : Type 0 where
+  pub missed : (high - low) % 255 ≡ 0 → Passes first → Passes second
+  pub no-other : Passes first → Passes second → (high - low) % 255 ≡ 0
+
+abbrev pub TwoBits : Type 0
+TwoBits =
+    (first second : List ℕ) → EquallyLong first second → (high low : ℕ) → differing first second ≡ high ∷ low ∷ [] → MissedAt high low first second
+
 -- the polynomial 169h is 1 0110 1001. Lay it on nine neighbouring places: these stand under its ones
 abbrev pub underOnes : ℕ → List ℕ
 underOnes from = (from + 8) ∷ (from + 6) ∷ (from + 5) ∷ (from + 3) ∷ from ∷ []
@@ -72,7 +81,7 @@ pub record ByPolynomial (first second : List ℕ) : Type 0 where
   pub from : ℕ
   pub differ : differing first second ≡ underOnes from
 
--- Two bodies that differ by it both pass or both fail. No other difference inside nine neighbouring bits is missed.
+-- If two bodies differ by it and one passes, the other passes. No other difference inside nine neighbouring bits is missed.
 pub record NineMissOne (first second : List ℕ) : Type 0 where
   pub missed : ByPolynomial first second → Passes first → Passes second
   pub no-other : Different first second → OnlyInside 9 first second → Passes first → Passes second → ByPolynomial first second
@@ -94,6 +103,14 @@ pub record OneFilling (from : ℕ) (body : List ℕ) : Type 0 where
 
 abbrev pub OneFillingPasses : Type 0
 OneFillingPasses = (body : List ℕ) → T (areBytes body) → (from : ℕ) → from + 8 ≤ bitsOf body → OneFilling from body
+
+-- Of other lengths no law says that a difference is found. A 00 too many ahead of a body is never found, nor is one behind a body that passes.
+pub record ZerosMissed (body : List ℕ) : Type 0 where
+  pub ahead : received (0x00 ∷ body) ≡ received body
+  pub behind : Passes body → Passes (body ++ (0x00 ∷ []))
+
+abbrev pub AddedZeros : Type 0
+AddedZeros = (body : List ℕ) → ZerosMissed body
 
 -- ---- a bit turned over
 

@@ -5,16 +5,17 @@ use mathlib.Core.List.{List, [], _∷_, map}
 use Rattle.check_misses.specs.Places.{bitAt, turnedOver, differing, OnlyInside, InBits, lowBitFirst, OnlyInsideLowFirst}
 use Rattle.check_misses.specs.Powers.{power}
 
+-- the four ends of two bytes, and a place that they do not have
+pub record BitsShown : Type 0 where
+  pub last : bitAt 0 (0x82 ∷ 0x81 ∷ []) ≡ 1
+  pub top-of-last : bitAt 7 (0x82 ∷ 0x81 ∷ []) ≡ 1
+  pub low-of-first : bitAt 8 (0x82 ∷ 0x81 ∷ []) ≡ 0
+  pub first : bitAt 15 (0x82 ∷ 0x81 ∷ []) ≡ 1
+  pub none-ahead : bitAt 16 (0x82 ∷ 0x81 ∷ []) ≡ 0
+
 -- two bytes of which only the first bit of all and the last are 1
 abbrev pub ends : List ℕ
 ends = 0x80 ∷ 0x01 ∷ []
-
-pub record BitsShown : Type 0 where
-  pub last : bitAt 0 ends ≡ 1
-  pub top-of-last : bitAt 7 ends ≡ 0
-  pub low-of-first : bitAt 8 ends ≡ 0
-  pub first : bitAt 15 ends ≡ 1
-  pub none-ahead : bitAt 16 ends ≡ 0
 
 -- a place of the last byte, one of the byte ahead of it, one that the body does not have; twice is as it was
 pub record TurnsShown : Type 0 where
@@ -48,7 +49,7 @@ pub record NeighboursShown : Type 0 where
   pub seven-leaves : OnlyInside 7 zeros eightAcross → ⊥
 
 pub record InBitsShown : Type 0 where
-  pub takes-one : InBits 2 zeros (0x00 ∷ 0x40 ∷ [])
+  pub takes-one : InBits 1 zeros (0x00 ∷ 0x40 ∷ [])
   pub takes-two : InBits 2 zeros ends
   pub leaves-none : InBits 2 ends ends → ⊥
   pub leaves-three : InBits 2 zeros (0x80 ∷ 0x03 ∷ []) → ⊥
@@ -62,7 +63,7 @@ pub record LowBitFirstShown : Type 0 where
   pub takes : OnlyInsideLowFirst 8 zeros (0x80 ∷ 0x40 ∷ [])
   pub leaves : OnlyInsideLowFirst 8 zeros (0x80 ∷ 0x80 ∷ []) → ⊥
 
--- 1, doubled seven times; the eighth falls out and folds in 69h; the last two, and the first again
+-- 1; doubled seven times; the eighth falls out and folds in 69h; the last of 255, and the first again
 pub record PowersShown : Type 0 where
   pub first : power 0 ≡ 0x01
   pub seventh : power 7 ≡ 0x80

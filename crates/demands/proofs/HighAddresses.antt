@@ -15,7 +15,7 @@ use Rattle.refusal.specs.declared.Refusal.the-variants.{AddressIllegal}
 use Rattle.refusal.specs.declared.Verdict.{Verdict}
 use Rattle.refusal.specs.declared.Verdict.the-variants.{Good, Refused}
 use Rattle.refusal.specs.Numbers.{numberOf}
-use Rattle.laws.proofs.ByteLists.{byte-at, bytes-drop}
+use Rattle.laws.proofs.ByteLists.{byte-at, bytes-one-more, bytes-drop}
 use Rattle.low_first.specs.LowFirst.{lowFirst}
 use Rattle.body.specs.declared.addresses.Address.{Address}
 use Rattle.body.specs.declared.addresses.Address.the-variants.{Short, Serial}
@@ -51,7 +51,7 @@ use Rattle.demands.specs.HighAddresses.{NoFive, HeardWithoutFive, Writte
 use Rattle.demands.proofs.Cuts.{any-blocks}
 use Rattle.demands.proofs.Reading.{hears-as-listener, every-cut}
 use Rattle.demands.proofs.Loops.{feed-loop, listen-loop}
-use Rattle.demands.proofs.Weighings.{one-more, in-log, in-listing}
+use Rattle.demands.proofs.Weighings.{in-log, in-listing}
 
 -- ---- a first byte below FE
 
@@ -112,7 +112,7 @@ low-byte byte small not-ff not-fe = omega (arith, ltb→lt byte 256 small, eqb-f
 
 longer : (kept : List ℕ) (more : ℕ) → T (ltb more 256) → Begun kept → Begun (kept ++ (more ∷ []))
 longer [] more small begun = absurd (omega (arith, begun .some))
-longer (first ∷ kept) more small begun = record { bytes = one-more (first ∷ kept) more (begun .bytes) small; some = omega arith; low = begun .low }
+longer (first ∷ kept) more small begun = record { bytes = bytes-one-more (first ∷ kept) more (begun .bytes) small; some = omega arith; low = begun .low }
 
 keeps : (kept : List ℕ) (more wire : ℕ) → Begun (kept ++ (more ∷ [])) → Both (keep kept more wire)
 unfolding keep
@@ -130,7 +130,7 @@ one-byte delimited byte wire small known =
     either Both (eqb byte 0xFF) _ _ (λ _. (tt, tt))
     (λ not-ff. either Both (eqb byte 0xFE) _ _ (λ _. (tt, tt))
     (λ not-fe. keeps [] byte wire
-    (record { bytes = one-more [] byte tt small; some = omega arith; low = low-byte byte small not-ff not-fe })))
+    (record { bytes = bytes-one-more [] byte tt small; some = omega arith; low = low-byte byte small not-ff not-fe })))
 one-byte (inside kept) byte wire small known =
     either Both (eqb byte 0xFF) _ _ (λ _. (known, tt)) (λ _. keeps kept byte wire (longer kept byte small known))
 one-byte (held kept) byte wire small known =

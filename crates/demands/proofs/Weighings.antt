@@ -1,16 +1,16 @@
 -- Shown: no weighing in the log and no weight in the listing, of any bytes from any state handed in, unless a reply C2 or C3 with its four bytes was heard.
 -- Why: a line hands out a body only where it is good, a record or an entry of a weight is made of such a body alone, and such a body is its parts again.
-use mir.Facts.{and-yes, yes-and}
+use mir.Facts.{and-yes}
 use Prim.Native.Nat.{ℕ, _+_}
 use mathlib.Core.Path.{_≡_, _∙_, refl, sym, ap, subst}
-use mathlib.Core.List.{List, [], _∷_, _++_, map, List·Memᴰ, List·Memᴰ·head, List·Memᴰ·tail, List·Memᴰ·not-nil}
+use mathlib.Core.List.{List, [], _∷_, map, List·Memᴰ, List·Memᴰ·head, List·Memᴰ·tail, List·Memᴰ·not-nil}
 use mathlib.Core.Logic.{_⊎_, inl, inr}
 use native.Mathlib.Omega.{arith}
 use lib.Dec.{T, ltb}
 use lib.Pow.{areBytes}
 use lib.ListN.{length}
 use Rattle.refusal.specs.declared.Verdict.the-variants.{Good}
-use Rattle.laws.proofs.ByteLists.{bytes-take}
+use Rattle.laws.proofs.ByteLists.{bytes-take, bytes-one-more}
 use Rattle.body.specs.declared.addresses.Address.{Address}
 use Rattle.body.specs.Body.{judged, codeIn, dataIn}
 use Rattle.body.specs.Addresses.{addressIn}
@@ -63,18 +63,13 @@ Bytes listener = T (areBytes (keptOf (listener .state)))
 whole : (listener : Listener) (byte : ℕ) → Bytes listener → Whole (hear listener byte .event)
 whole listener byte all = every-told Whole listener byte tt tt tt (λ good. (all, good)) (λ why bad. tt)
 
-pub one-more : (kept : List ℕ) (more : ℕ) → T (areBytes kept) → T (ltb more 256) → T (areBytes (kept ++ (more ∷ [])))
-one-more [] more all small = yes-and (ltb more 256) _ small tt
-one-more (byte ∷ kept) more all small =
-    yes-and (ltb byte 256) _ (and-yes (ltb byte 256) (areBytes kept) all .0) (one-more kept more (and-yes (ltb byte 256) (areBytes kept) all .1) small)
-
 stays : (listener : Listener) (byte : ℕ) → T (ltb byte 256) → Bytes listener → Bytes (hear listener byte .next)
 stays listener byte small all =
     every-step (λ (s : Step). Bytes (s .next)) listener byte
     (record {
       empty = λ next none. rw none tt;
       as-it-was = all;
-      keeps = λ more which fits. one-more (keptOf (listener .state)) more all (by-which more which);
+      keeps = λ more which fits. bytes-one-more (keptOf (listener .state)) more all (by-which more which);
       full = λ _. tt;
       broken = tt;
       good = λ _. tt;

@@ -1,9 +1,9 @@
--- Shown: an element of a list of bytes is below 256, a part of one is one, and a list of known length is its elements by their places; a slice's part.
+-- Shown: an element of a list of bytes is below 256, a part of one is one, one byte more makes one, and a list of known length is its elements by their places; a slice's part.
 -- Why: by induction along the list.
 use mir.Facts.{and-yes, yes-and}
 use Prim.Native.Nat.{ℕ, zero, suc, _-_, _≤_, _<_}
 use mathlib.Core.Path.{_≡_, _∙_, refl, sym, ap}
-use mathlib.Core.List.{List, [], _∷_}
+use mathlib.Core.List.{List, [], _∷_, _++_}
 use native.Mathlib.Nat.{sub-zero, zero-sub, suc-sub-suc}
 use native.Mathlib.Omega.{arith}
 use lib.Dec.{T, ltb, ltb→lt, lit<}
@@ -28,6 +28,13 @@ pub bytes-drop : (count : ℕ) (bytes : List ℕ) → T (areBytes bytes) → T (
 bytes-drop zero bytes all = all
 bytes-drop (suc count) [] all = tt
 bytes-drop (suc count) (byte ∷ bytes) all = bytes-drop count bytes (and-yes (ltb byte 256) (areBytes bytes) all .1)
+
+-- with one byte more behind them
+pub bytes-one-more : (bytes : List ℕ) (more : ℕ) → T (areBytes bytes) → T (ltb more 256) → T (areBytes (bytes ++ (more ∷ [])))
+bytes-one-more [] more all small = yes-and (ltb more 256) _ small tt
+bytes-one-more (byte ∷ bytes) more all small =
+    yes-and (ltb byte 256) _ (and-yes (ltb byte 256) (areBytes bytes) all .0)
+    (bytes-one-more bytes more (and-yes (ltb byte 256) (areBytes bytes) all .1) small)
 
 -- so many elements, each told by its place
 unfoldable pub placed : ℕ → (ℕ → ℕ) → List ℕ
