@@ -1,5 +1,5 @@
 -- Shown: two bodies that differ only inside eight neighbouring bits, the low bit of each byte first, don't both pass.
--- Why: such bits are the top ones of one byte and the low ones of the byte ahead of it. Those of the byte ahead, fed, always reach above the others:
+-- Why: such bits are the top ones of one byte and the low ones of the byte behind it. What the top ones feed to always reaches above the low ones:
 -- computed for each of the eight ways to lie.
 use Prim.Native.Nat.{ℕ, _+_, _-_, _*_, _/_, _%_, _^_, _≤_, _<_}
 use mathlib.Core.Path.{_≡_, _∙_, sym, ap, ap₂, subst}
@@ -39,7 +39,8 @@ allReach top = every (reaches top) (2 ^ top)
 no-part : (top : ℕ) → top < 8 → (part : ℕ) → part < 2 ^ top → feedBits (16 - top) part 0 < 2 ^ (8 - top) → part ≡ 0
 unfolding feedBits shiftIn
 no-part top h part small fits =
-    ⊎-elim (λ (e : T (eqb part 0)). eqb→eq part 0 e) (λ (e : T (leb (2 ^ (8 - top)) (feedBits (16 - top) part 0))). absurd (omega (arith, fits, leb→le (2 ^ (8 - top)) (feedBits (16 - top) part 0) e)))
+    let fed = feedBits (16 - top) part 0 in
+    ⊎-elim (eqb→eq part 0) (λ (e : T (leb (2 ^ (8 - top)) fed)). absurd (omega (arith, fits, leb→le (2 ^ (8 - top)) fed e)))
     (or-yes (eqb part 0) _ (below (reaches top) (2 ^ top) (below allReach 8 tt top h) part small))
 
 -- a number that fits the register feeds to itself

@@ -30,7 +30,8 @@ either : (number : ℕ) → number < 512 → feedBits 9 0 number ≡ 0 → (numb
 unfolding feedBits shiftIn
 either number h none =
     let passed = below only169 512 tt number h in
-    ⊎-elim (λ (e : T (eqb number 0)). inl (eqb→eq number 0 e)) (λ (e : T (eqb number 0x169)). inr (eqb→eq number 0x169 e)) (or-yes (eqb number 0) (eqb number 0x169) (rw none at passed))
+    ⊎-elim (λ (e : T (eqb number 0)). inl (eqb→eq number 0 e)) (λ (e : T (eqb number 0x169)). inr (eqb→eq number 0x169 e))
+    (or-yes (eqb number 0) (eqb number 0x169) (rw none at passed))
 
 polynomial-fed : feedBits 9 0 0x169 ≡ 0
 unfolding feedBits shiftIn
@@ -64,7 +65,8 @@ module _ (first second : List ℕ) (alike : EquallyLong first second) where
     from = from;
     differ =
         differing-ones first second alike (bitsOf first) ∙ ap (ones (bitsOf first)) (sym is)
-        ∙ ones-in (bitsOf first) (from + 9) (0x169 * 2 ^ from) (subst (λ (n : ℕ). n < 2 ^ bitsOf first) (sym is) (between-below first second alike)) (omega (arith, pow-add 2 from 9, pow-pos from))
+        ∙ ones-in (bitsOf first) (from + 9) (0x169 * 2 ^ from) (subst (λ (n : ℕ). n < 2 ^ bitsOf first) (sym is) (between-below first second alike))
+        (omega (arith, pow-add 2 from 9, pow-pos from))
         ∙ ones-moved from 0x169 9 ∙ ones-of-169 from;
   }
 

@@ -97,8 +97,8 @@ module _ (first second : List ℕ) (alike : EquallyLong first second) where
       sym (xor-zero-eq (received first) (received second) (two-found high low is ∙ ap (λ (n : ℕ). bitXor n (power low)) same ∙ xor-self (power low))) ∙ p
 
   -- one or two of the first 255 places
-  by-places : (most : ℕ) → (most ≤ 1) ⊎ (bitsOf first ≤ 255) → most ≤ 2 → (places : List ℕ) → differing first second ≡ places → 1 ≤ length places → length places ≤ most
-      → NotBoth first second
+  by-places : (most : ℕ) → (most ≤ 1) ⊎ (bitsOf first ≤ 255) → most ≤ 2 → (places : List ℕ) → differing first second ≡ places
+      → 1 ≤ length places → length places ≤ most → NotBoth first second
   by-places most short few [] is some no-more p q = omega (arith, some)
   by-places most short few (place ∷ []) is some no-more p q = one-place place is p q
   by-places most short few (high ∷ low ∷ []) is some no-more p q =

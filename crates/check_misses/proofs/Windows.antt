@@ -61,7 +61,8 @@ pub none-outside : (from many count number : ℕ) → number < 2 ^ count → T (
     → (place : ℕ) → (from ≤ place → place < from + many → ⊥) → bitOf place number ≡ 0
 none-outside from many count number h all = quiet itself from many count number h (in-order from many count number all)
 
-pub only-inside : (from many count number : ℕ) → ((place : ℕ) → (from ≤ place → place < from + many → ⊥) → bitOf place number ≡ 0) → T (among from many (ones count number))
+pub only-inside : (from many count number : ℕ) → ((place : ℕ) → (from ≤ place → place < from + many → ⊥) → bitOf place number ≡ 0)
+    → T (among from many (ones count number))
 only-inside from many count number none =
     among-ones from many count number
     (λ place _ one. elim (decLe from place) [

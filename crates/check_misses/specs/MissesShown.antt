@@ -1,11 +1,13 @@
 -- 02, request 8, "show that example", computed: messages that somebody sends, and bodies beside them that differ and pass too. And the laws at their
 -- edges.
-use Prim.Native.Nat.{ℕ, _-_}
+use Prim.Native.Nat.{ℕ, zero, suc, _+_, _-_, _*_, _/_, _%_, _^_}
 use mathlib.Core.Path.{_≡_}
+use mathlib.Core.Bool.{cond}
 use mathlib.Core.List.{List, [], _∷_, _++_}
 use lib.ListN.{length, replicate}
-use lib.Dec.{T}
+use lib.Dec.{T, eqb}
 use lib.Pow.{areBytes}
+use Rattle.check_byte.specs.Register.{received}
 use Rattle.check_misses.specs.Places.{bitsOf, turnedOver, OnlyInside, InBits, OnlyInsideLowFirst}
 use Rattle.check_misses.specs.Misses.{Missed, NotBoth, Filling, OneFilling, BitTurned}
 use Rattle.check_misses.specs.PlacesShown.{zeros, eightAcross}
@@ -50,6 +52,26 @@ pub record ThreeBits : Type 0 where
 pub record NineLowBitFirst : Type 0 where
   pub missed : Missed asksGross (0x01 ∷ 0x43 ∷ 0x56 ∷ []) (15 ∷ 7 ∷ 5 ∷ 4 ∷ 2 ∷ 0 ∷ [])
   pub inside-nine : OnlyInsideLowFirst 9 asksGross (0x01 ∷ 0x43 ∷ 0x56 ∷ [])
+
+-- Counted: two bytes that differ from zeros over exactly `span` bits. The first and the last bit of the span are 1, and those between are those of a
+-- number. Zeros pass, so the difference is missed where these bytes pass
+unfoldable pub spanning : ℕ → ℕ → List ℕ
+spanning span between = let bits = 2 ^ (span - 1) + 2 * between + 1 in bits / 256 ∷ bits % 256 ∷ []
+
+-- how many are missed, of so many numbers between
+unfoldable pub missedOf : ℕ → ℕ → ℕ
+missedOf span zero = 0
+missedOf span (suc between) = cond (eqb (received (spanning span between)) 0) 1 0 + missedOf span between
+
+-- none of those that span eight bits, 1 in 128 of those that span nine, 1 in 256 of those that span ten, eleven and twelve
+pub record CountsShown : Type 0 where
+  pub lowest : spanning 9 0 ≡ 0x01 ∷ 0x01 ∷ []
+  pub highest : spanning 9 127 ≡ 0x01 ∷ 0xFF ∷ []
+  pub eight : missedOf 8 64 ≡ 0
+  pub nine : missedOf 9 128 ≡ 1
+  pub ten : missedOf 10 256 ≡ 1
+  pub eleven : missedOf 11 512 ≡ 2
+  pub twelve : missedOf 12 1024 ≡ 4
 
 -- a body whose check is wrong is no example of what is missed
 pub record NotMissed : Type 0 where
