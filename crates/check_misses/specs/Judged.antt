@@ -20,7 +20,7 @@ pub record NeitherOccurs (first second : List ℕ) : Type 0 where
   pub neighbours : Different first second → OnlyInside 8 first second → ⊥
   pub bits : length first ≤ 31 → InBits 2 first second → ⊥
 
--- of two different bodies that `judge` takes
+-- of two bodies that `judge` takes; only for the eight neighbouring bits must they be different
 abbrev pub BothTaken : Type 0
 BothTaken = (first second : List ℕ) → EquallyLong first second → judgedLent first ≡ Good → judgedLent second ≡ Good → NeitherOccurs first second
 

@@ -1,5 +1,5 @@
 -- 02, request 8: "not of wires, where a hit can make a false FF". Wires that one bad bit changes, computed: what is heard then. And what one bad bit in
--- a body earns: 4, or 1 where its address becomes 00.
+-- a body earns: 4, or 1 where its address becomes 00 and it has under 6 bytes.
 use Prim.Native.Nat.{ℕ}
 use mathlib.Core.Path.{_≡_}
 use mathlib.Core.List.{List, [], _∷_}

@@ -104,7 +104,7 @@ pub record OneFilling (from : ℕ) (body : List ℕ) : Type 0 where
 abbrev pub OneFillingPasses : Type 0
 OneFillingPasses = (body : List ℕ) → T (areBytes body) → (from : ℕ) → from + 8 ≤ bitsOf body → OneFilling from body
 
--- Of other lengths no law says that a difference is found. A 00 too many ahead of a body is never found, nor is one behind a body that passes.
+-- Of other lengths no law says that a difference is found. The check never finds a 00 too many ahead of a body, nor one behind a body that passes.
 pub record ZerosMissed (body : List ℕ) : Type 0 where
   pub ahead : received (0x00 ∷ body) ≡ received body
   pub behind : Passes body → Passes (body ++ (0x00 ∷ []))

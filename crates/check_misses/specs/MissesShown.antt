@@ -54,7 +54,7 @@ pub record NineLowBitFirst : Type 0 where
   pub inside-nine : OnlyInsideLowFirst 9 asksGross (0x01 ∷ 0x43 ∷ 0x56 ∷ [])
 
 -- Counted: two bytes that differ from zeros over exactly `span` bits. The first and the last bit of the span are 1, and those between are those of a
--- number. Zeros pass, so the difference is missed where these bytes pass
+-- number that has two bits fewer. Zeros pass, so the difference is missed where these bytes pass
 unfoldable pub spanning : ℕ → ℕ → List ℕ
 spanning span between = let bits = 2 ^ (span - 1) + 2 * between + 1 in bits / 256 ∷ bits % 256 ∷ []
 
@@ -63,7 +63,7 @@ unfoldable pub missedOf : ℕ → ℕ → ℕ
 missedOf span zero = 0
 missedOf span (suc between) = cond (eqb (received (spanning span between)) 0) 1 0 + missedOf span between
 
--- none of those that span eight bits, 1 in 128 of those that span nine, 1 in 256 of those that span ten, eleven and twelve
+-- at the end of two bytes: none of those that span eight bits, 1 in 128 of those that span nine, 1 in 256 of those that span ten, eleven and twelve
 pub record CountsShown : Type 0 where
   pub lowest : spanning 9 0 ≡ 0x01 ∷ 0x01 ∷ []
   pub highest : spanning 9 127 ≡ 0x01 ∷ 0xFF ∷ []
