@@ -65,7 +65,9 @@ enum {
     QUAY_PARCEL_CHECK_WRONG = 22, /* the check of such a message is wrong */
     QUAY_COUNT_FULL = 23,     /* a count of the weekday and hour table would pass 65,535 */
     QUAY_OVERLOADED = 24,     /* bit 3 of CON, overload, is set: instead of a value */
-    QUAY_SUM_BEYOND = 31      /* a lent cell of that table: its sum, sign aside, is beyond its count times 9,999,990,000,000 */
+    QUAY_LENGTH_OUTSIDE = 25, /* a body that is empty or over 31 bytes, in which no bad bit is looked for */
+    QUAY_CHECK_RIGHT = 26,    /* the check of such a body is right already */
+    QUAY_SUM_BEYOND = 31      /* a lent cell of the weekday and hour table: its sum, sign aside, is beyond its count times 9,999,990,000,000 */
 };
 
 /* 20, 21 and 22 are earned by the messages of the parcel scales at the foot desk (document 003). The Rattle library reads and writes them
@@ -74,7 +76,10 @@ enum {
  *
  * 23 and 31 are earned by the weekday and hour table, which the Rattle library fills (`hour_table`). No function of this header answers these two either.
  *
- * 24 is answered by quay_value, quay_difference and quay_kilograms alone. No line meets it, so that no event and no record of kind 3 can have it. */
+ * 24 is answered by quay_value, quay_difference and quay_kilograms alone. No line meets it, so that no event and no record of kind 3 can have it.
+ *
+ * 25 and 26 are earned where the cable crew asks which bit of a body went bad, which the Rattle library tells (`bad_bit`). No function of this header
+ * answers these two, and no line meets them. */
 
 /* ---- numbers of the fields */
 

@@ -1,7 +1,7 @@
 """Refusals: the numbers of the rules paper's list and of the requests behind it, and the exception that carries one.
 
-20 to 22 are of the parcel scales, 23 and 31 of the weekday and hour table. This module hands over neither yet. 24 is raised where the value of
-an overloaded weight is asked for. No line meets it.
+20 to 22 are of the parcel scales, 23 and 31 of the weekday and hour table, 25 and 26 of the bad bit that is looked for in a body. This module hands
+over none of these yet. 24 is raised where the value of an overloaded weight is asked for. No line meets any of them.
 """
 from __future__ import annotations
 
@@ -24,7 +24,9 @@ MEANINGS: Dict[int, str] = {
     22: "check of a parcel scale's message wrong",
     23: 'a count of the weekday and hour table would pass 65,535',
     24: 'overload, so the reading has no value',
-    31: 'sum of a cell of that table, sign aside, beyond its count of weights times 9,999,990,000,000',
+    25: 'body empty or over 31 bytes, so no bad bit is looked for',
+    26: 'check already right, so no bad bit is looked for',
+    31: 'sum of a cell of the weekday and hour table, sign aside, beyond its count of weights times 9,999,990,000,000',
 }
 
 

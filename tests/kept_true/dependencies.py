@@ -1,4 +1,4 @@
-"""No crate is given another that it does not name: crates.txt says what an edit proves again, and no more."""
+"""No crate is given another that it does not name: crates.txt says what an edit proves again, and no more. And a finding stays on the crew's sheet."""
 import re
 
 from texts import ROOT, Finding, bare_lines, crates, files_of
@@ -9,6 +9,9 @@ NEEDED = {
                                '"a value is reached here whose type `quay_message` cannot name"',
 }
 
+# "The finding is for the crew's sheet only" (02, request 9): laws and programs of the sheet may ask for one, and no reader, message or log does.
+FOR_THE_SHEET = {'bad_bit': ('bit_vectors', 'crew_sheet')}
+
 
 def names(crate: str, other: str) -> bool:
     """Code names a crate by `other::`, definitions, proofs and contracts by `Rattle.other.`"""
@@ -16,9 +19,16 @@ def names(crate: str, other: str) -> bool:
     return any(named.search(line) for file in files_of(crate) for line in bare_lines(file))
 
 
+def strangers() -> list[Finding]:
+    """Crates that stand on one whose answers are for the sheet alone."""
+    return [Finding(ROOT / 'crates.txt', line, f'`{crate}` stands on `{other}`, whose findings are for the crew\'s sheet only')
+            for crate, (line, given) in crates().items() for other in given
+            if other in FOR_THE_SHEET and crate not in FOR_THE_SHEET[other]]
+
+
 def findings() -> list[Finding]:
     listed = ROOT / 'crates.txt'
-    found = []
+    found = strangers()
     for crate, (line, given) in crates().items():
         for other in given:
             if names(crate, other):

@@ -79,7 +79,7 @@ def section_of(crate: str) -> list[tuple[int, str]]:
     return found
 
 
-OF_LAWS = ('register', 'check_misses', 'demands')  # crates that have laws in place of functions, and wrong programs of these
+OF_LAWS = ('register', 'check_misses', 'crew_sheet', 'demands')  # crates that have laws in place of functions, and wrong programs of these
 
 
 def is_program(crate: str) -> bool:

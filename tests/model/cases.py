@@ -5,6 +5,7 @@ formatting is in `line_of`, so that the text of the vector files can be fixed
 later without touching the cases.
 """
 
+import cases_bad_bit
 import cases_frame
 import cases_line
 import cases_listing
@@ -21,7 +22,7 @@ PARTS = (
     ('frame', cases_frame.cases), ('line', cases_line.cases), ('weight', cases_weight.cases),
     ('message', cases_message.cases), ('log', cases_log.cases),
     ('listing', cases_listing.cases), ('wires', cases_line.wires), ('walker', cases_walker.cases),
-    ('parcel', cases_parcel.cases), ('table', cases_table.cases))
+    ('parcel', cases_parcel.cases), ('table', cases_table.cases), ('bad_bit', cases_bad_bit.cases))
 
 
 def all_cases():

@@ -24,7 +24,7 @@ OLD = GOOD_SERIAL._replace(family=families.PLAIN)
 WIDE_SERIALS = (0x1000000, 2 ** 32 - 1)  # open point 7.10
 HALVES = (0, 9, 10, 15)  # of a weight byte, at and past the decimal digits
 # At and past the refusals that a line meets; the later numbers of 01 and 02; and bits of CON.
-STATUSES = (*range(12), 20, 21, 22, 23, 24, 27, 31, 0x40, 0x91, 128, 255)
+STATUSES = (*range(12), *range(20, 28), 31, 0x40, 0x91, 128, 255)
 
 
 def field_changes():

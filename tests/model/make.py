@@ -5,19 +5,22 @@
     python3 tests/model/make.py --differ FILE  says which cases a run's output answers otherwise (exit 1)
     python3 tests/model/make.py --differ parcel_vectors FILE   the same of that program; else it is vectors
     python3 tests/model/make.py --differ table_vectors FILE    the same of that one
+    python3 tests/model/make.py --differ bit_vectors FILE      the same of that one
     python3 tests/model/make.py --text         writes the cases as text to tests/model/out, to be read
 
-The committed files are what `crates/vectors`, `crates/parcel_vectors` and
-`crates/table_vectors` read and must write, and a mixed capture with its listing,
-which `crates/list_capture` reads and must write; and the small wires of samples/
-with theirs. The mixed capture is listed as family 002, each small wire as its own.
-As text there is a file per part of the model with one case a line.
+The committed files are what `crates/vectors`, `crates/parcel_vectors`,
+`crates/table_vectors` and `crates/bit_vectors` read and must write, and a mixed
+capture with its listing, which `crates/list_capture` reads and must write; and the
+small wires of samples/ with theirs. The mixed capture is listed as family 002, each
+small wire as its own. As text there is a file per part of the model with one case a
+line.
 """
 
 import collections
 import os
 import sys
 
+import bit_vectors
 import captures
 import cases
 import listing
@@ -33,7 +36,7 @@ CAPTURE_SEED = 2024
 CAPTURE_SIZE = 200_000
 SHOWN = 10  # cases that a difference shows whole
 PROGRAMS = {'vectors': vectors.vectors, 'parcel_vectors': parcel_vectors.vectors,
-            'table_vectors': table_vectors.vectors}  # what runs cases
+            'table_vectors': table_vectors.vectors, 'bit_vectors': bit_vectors.vectors}  # what runs cases
 NOT_NAMED = 'vectors'  # whose cases a difference is asked of if no program is named
 
 

@@ -165,7 +165,7 @@ def test_listing(expect):
         room = bytearray(12)
         expect('met on the line', (write_line(1, OF_002, Event(number, 9, 4, b''), room), bytes(room)),
                ((0, 12), b'1 refused %d\n' % number))
-    for number in (9, 10, 11, 20, 21, 22, 23, 24, 31):
+    for number in (9, 10, 11, 20, 21, 22, 23, 24, 25, 26, 31):
         for length in (0, 12, 13, 100):
             room = bytearray(b'\xaa' * length)
             expect('not met on the line', (write_line(1, OF_002, Event(number, 9, 4, b''), room), bytes(room)),

@@ -18,7 +18,7 @@ EMPTY = (0, 0, 0)
 HEAVIEST = 9_999_990_000_000
 SLOTS = [(weekday, hour) for weekday in range(7) for hour in range(24)]
 ADDRESSES = {0x9F, 0xA0, 0xA4, 0xF0, 0xFD, 0xFE, 0xFF}
-STATUSES = {*range(13), 20, 21, 22, 23, 24, 31, 255}  # of kind 3
+STATUSES = {*range(13), 20, 21, 22, 23, 24, 25, 26, 31, 255}  # of kind 3
 INTO = ('add_to_cell', 'enter_table', 'fill_table')
 
 
@@ -150,7 +150,7 @@ RULES_BROKEN = {
     'address in kind 3': lambda record: record.kind == 3 and record.address and record.weight == NONE,
     'serial in kind 3': lambda record: record.kind == 3 and record.serial and record.weight == NONE,
     'family in kind 3': lambda record: record.kind == 3 and record.family and record.status < 9,
-    'status in kind 3': lambda record: record.kind == 3 and record.status in (0, 9, 23, 24, 31),
+    'status in kind 3': lambda record: record.kind == 3 and record.status in (0, 9, 23, 24, 25, 26, 31),
     'wide serial': lambda record: record.serial > 0xFFFFFF,
 }
 

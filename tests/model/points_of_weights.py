@@ -112,7 +112,7 @@ def test_heard(expect):
         expect('7.4', [record_heard(7, role, PLAIN, Event(number, 9, 4, b'')) for number in range(1, 9)],
                [Record(7, 3, 0, 0, number, NO_WEIGHT, 0) for number in range(1, 9)])
         # a refusal that no line can meet is 8, and makes no record
-        for number in (9, 10, 11, 20, 21, 22, 23, 24, 31):
+        for number in (9, 10, 11, 20, 21, 22, 23, 24, 25, 26, 31):
             expect('not met on the line', record_heard(7, role, PLAIN, Event(number, 9, 4, b'')), (8,))
     refused = ((0x11, b''), (0xC3, b''), (0xBF, b'\x80'))
     expect('7.4', [recorded('reply', code, data) for code, data in refused],

@@ -1,4 +1,4 @@
-"""The numbers of the paper's list "What the answers mean", and those of 02 requests 5, 6 and 7.
+"""The numbers of the paper's list "What the answers mean", and those of 02 requests 5, 6, 7 and 9.
 
 Every answer of the model starts with one of these numbers. A reader that
 refuses answers the number and nothing else; a writer that refuses answers
@@ -22,11 +22,13 @@ BYTES_MISSING = 21   # 02 request 5: "fewer bytes than length and check need"
 PARCEL_CHECK_WRONG = 22  # 02 request 5: "check wrong"
 COUNT_FULL = 23      # 02 request 6: "when a count would pass 65,535"
 BRIDGE_OVERLOADED = 24  # 02 request 7: "overload, after 8, instead of a value"
+BODY_NOT_SERVED = 25  # 02 request 9: "body empty or over 31 bytes"
+CHECK_RIGHT = 26     # 02 request 9: "check already right"
 SUM_TOO_FAR = 31     # 02 request 6: "a lent cell whose sum, sign aside, is beyond its count times 9,999,990,000,000"
 
 ALL = (BODY_TOO_SHORT, BODY_TOO_LONG, STRAY_BYTE, CHECK_WRONG, ADDRESS_WRONG, CODE_UNKNOWN,
        LENGTH_WRONG, FIELD_WRONG, ROOM_SHORT, LOG_LEFT_OVER, RECORD_WRONG, HEADER_WRONG, BYTES_MISSING,
-       PARCEL_CHECK_WRONG, COUNT_FULL, BRIDGE_OVERLOADED, SUM_TOO_FAR)
+       PARCEL_CHECK_WRONG, COUNT_FULL, BRIDGE_OVERLOADED, BODY_NOT_SERVED, CHECK_RIGHT, SUM_TOO_FAR)
 LINE_REFUSALS = range(1, 9)  # "Kind 3 is a refusal met on the line: status 1 to 8"
 
 

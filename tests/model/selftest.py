@@ -1,4 +1,4 @@
-"""The model tests itself: E1 to E8, the paper's listing, the open points, 02 requests 1, 2 and 4 to 7.
+"""The model tests itself: E1 to E8, the paper's listing, the open points, 02 requests 1, 2, 4 to 7 and 9.
 
     python3 tests/model/selftest.py
 
@@ -15,6 +15,9 @@ import listing
 import log
 import message
 import points_of_addresses
+import points_of_bad_bit_cases
+import points_of_bad_bit_stand_ins
+import points_of_bad_bits
 import points_of_cases
 import points_of_families
 import points_of_lines
@@ -157,7 +160,8 @@ TESTS = (test_judged_examples, test_longest_body, test_paper_listing, test_misre
     + points_of_lines.TESTS + points_of_messages.TESTS + points_of_weights.TESTS \
     + points_of_addresses.TESTS + points_of_walks.TESTS + points_of_families.TESTS + points_of_cases.TESTS \
     + points_of_parcels.TESTS + points_of_parcel_cases.TESTS + points_of_tables.TESTS + points_of_table_cases.TESTS \
-    + points_of_overload.TESTS + points_of_overload_cases.TESTS
+    + points_of_overload.TESTS + points_of_overload_cases.TESTS \
+    + points_of_bad_bits.TESTS + points_of_bad_bit_cases.TESTS + points_of_bad_bit_stand_ins.TESTS
 
 
 def main():

@@ -53,7 +53,7 @@ BROKEN = tuple(GROSS._replace(kind=kind) for kind in (0, 3, 4, 255)) \
     + tuple(GROSS._replace(family=family) for family in (4, 255)) \
     + (GROSS._replace(serial=1), GROSS._replace(status=GROSS.status | 0x40), NET._replace(family=4),
        UNSETTLED._replace(serial=255), OVERLOADED._replace(weight=b'\xff\xff\xff')) \
-    + tuple(REFUSED._replace(status=status) for status in (0, 9, 10, 11, 12, 20, 21, 22, 23, 24, 31, 255)) \
+    + tuple(REFUSED._replace(status=status) for status in (0, 9, 10, 11, 12, *range(20, 27), 31, 255)) \
     + (REFUSED._replace(address=1), REFUSED._replace(serial=1), REFUSED._replace(family=1)) \
     + tuple(REFUSED._replace(weight=digits) for digits in (b'\x01\x00\x00', b'\x00\x01\x00', b'\x00\x00\x01'))
 TOO_WIDE = (GROSS._replace(serial=0x1000000), FROM_SERIAL._replace(serial=2 ** 32 - 1))  # in no 20 bytes

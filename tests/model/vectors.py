@@ -5,8 +5,9 @@ for a writer the room as it is lent in the same way, and then its numbers, low
 byte first. An answer is a line of words. README.md has the layouts.
 
 `RUN` is the one list of what is run: a function of the cases, and under which
-number and in which layouts. What is not in it is not run. `parcel_vectors.py` and
-`table_vectors.py` have the lists of the other programs, in the same form.
+number and in which layouts. What is not in it is not run. `parcel_vectors.py`,
+`table_vectors.py` and `bit_vectors.py` have the lists of the other programs, in the
+same form.
 """
 
 from collections import namedtuple

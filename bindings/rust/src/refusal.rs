@@ -39,11 +39,15 @@ pub enum Refusal {
     /// 24: a weight is marked overload, so that it has no value. [`Weight`](crate::Weight) answers it for its value, kilograms and
     /// difference, after 8. No line meets it.
     Overloaded = 24,
-    /// 31: a lent cell of that table has a sum that is, sign aside, beyond its count times 9,999,990,000,000.
+    /// 25: a body that is empty or over 31 bytes, in which no bad bit is looked for. Nothing of this crate answers 25 or 26 yet.
+    LengthOutside = 25,
+    /// 26: the check of such a body is right already.
+    CheckRight = 26,
+    /// 31: a lent cell of the weekday and hour table has a sum that is, sign aside, beyond its count times 9,999,990,000,000.
     SumBeyond = 31,
 }
 
-const IN_ORDER: [Refusal; 17] = [
+const IN_ORDER: [Refusal; 19] = [
     Refusal::BodyShort,
     Refusal::BodyLong,
     Refusal::HeldBroken,
@@ -60,6 +64,8 @@ const IN_ORDER: [Refusal; 17] = [
     Refusal::ParcelCheckWrong,
     Refusal::CountFull,
     Refusal::Overloaded,
+    Refusal::LengthOutside,
+    Refusal::CheckRight,
     Refusal::SumBeyond,
 ];
 
@@ -103,6 +109,8 @@ impl Refusal {
             Refusal::ParcelCheckWrong => "the check of the parcel message is wrong",
             Refusal::CountFull => "a count of the weekday and hour table would pass 65,535",
             Refusal::Overloaded => "the bridge is overloaded and has no weight",
+            Refusal::LengthOutside => "the body is empty or over 31 bytes, so no bad bit is looked for",
+            Refusal::CheckRight => "the check is right already, so no bad bit is looked for",
             Refusal::SumBeyond => "a cell of the weekday and hour table has a sum beyond what its count of weights allows",
         }
     }

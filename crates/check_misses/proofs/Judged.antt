@@ -37,6 +37,11 @@ both-taken first second alike a b =
     let q = good-check second (lent-good second b) in
     record { neighbours = λ other only. eight-neighbours first second alike other only p q; bits = λ few bits. one-or-two-bits first second alike few bits p q }
 
+-- a body whose check is wrong is refused by 4, or by 1 where it is short
+pub short-or-four : (is-short : Bool) (later : Verdict) → refuseIf is-short BodyShort (refuseIf true CheckWrong later) ≡ Refused (cond is-short BodyShort CheckWrong)
+short-or-four true later = refl
+short-or-four false later = refl
+
 -- ---- a good body with one bit turned over
 
 module _ (body : List ℕ) (good : judged body ≡ Good) (most : length body ≤ longest) (place : ℕ) (h : place < bitsOf body) where
@@ -56,15 +61,11 @@ module _ (body : List ℕ) (good : judged body ≡ Good) (most : length body ≤
   unfolding short body′
   serial-alone = rw (le-ltb (length (turnedOver place body)) 3 (rw (length-turned place body) (three body (good-not-short body good))))
 
-  told : (is-short : Bool) (later : Verdict) → refuseIf is-short BodyShort (refuseIf true CheckWrong later) ≡ Refused (cond is-short BodyShort CheckWrong)
-  told true later = refl
-  told false later = refl
-
   turned-judged : judgedLent (turnedOver place body) ≡ Refused (earnedBy (turnedOver place body))
   unfolding judged body′
   turned-judged =
       lent-is body′ (rw (length-turned place body) most)
-      ∙ rw (serial-alone, wrong) (told (eqb (getD body′ 0 0) 0 && ltb (length body′) 6) (refuseIf (not (legal (addressIn body′))) AddressIllegal Good))
+      ∙ rw (serial-alone, wrong) (short-or-four (eqb (getD body′ 0 0) 0 && ltb (length body′) 6) (refuseIf (not (legal (addressIn body′))) AddressIllegal Good))
 
 -- ---- what a listener hears
 

@@ -43,7 +43,7 @@ pair bits high low l h =
     ∙ ap₂ bitXor (single bits high h) (single bits low (omega (arith, l, h)))
 
 -- two powers are the same only a multiple of 255 places from each other
-apart : (low high : ℕ) → low < high → power high ≡ power low → (high - low) % 255 ≡ 0
+pub apart : (low high : ℕ) → low < high → power high ≡ power low → (high - low) % 255 ≡ 0
 apart low high l same =
     let more : high - low + low ≡ high = omega (arith, l) in
     one-again (high - low)

@@ -2,7 +2,7 @@
 -- Why: the row with the number of a refusal is its own, case by case.
 use mathlib.Core.Path.{_≡_, _∙_, refl, sym, ap}
 use Rattle.refusal.specs.declared.Refusal.{Refusal}
-use Rattle.refusal.specs.declared.Refusal.the-variants.{BodyShort, BodyLong, HeldBroken, CheckWrong, AddressIllegal, CodeUnknown, LengthWrong, FieldOutside, RoomShort, LogLeftOver, RecordBroken, HeaderWrong, BytesMissing, ParcelCheckWrong, CountFull, Overloaded, SumBeyond}
+use Rattle.refusal.specs.declared.Refusal.the-variants.{BodyShort, BodyLong, HeldBroken, CheckWrong, AddressIllegal, CodeUnknown, LengthWrong, FieldOutside, RoomShort, LogLeftOver, RecordBroken, HeaderWrong, BytesMissing, ParcelCheckWrong, CountFull, Overloaded, LengthOutside, CheckRight, SumBeyond}
 use Rattle.refusal.specs.declared.Named.{Named}
 use Rattle.refusal.specs.declared.Named.the-variants as named-as
 use Rattle.refusal.specs.Numbers.{numberOf, namedIn, namedOf}
@@ -25,6 +25,8 @@ named-back BytesMissing = refl
 named-back ParcelCheckWrong = refl
 named-back CountFull = refl
 named-back Overloaded = refl
+named-back LengthOutside = refl
+named-back CheckRight = refl
 named-back SumBeyond = refl
 
 inside : Named → Refusal → Refusal

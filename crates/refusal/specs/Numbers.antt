@@ -4,14 +4,15 @@ use mathlib.Core.Bool.{Bool, true, false, cond, _&&_}
 use mathlib.Core.List.{List, [], _∷_}
 use lib.Dec.{leb, eqb}
 use Rattle.refusal.specs.declared.Refusal.{Refusal}
-use Rattle.refusal.specs.declared.Refusal.the-variants.{BodyShort, BodyLong, HeldBroken, CheckWrong, AddressIllegal, CodeUnknown, LengthWrong, FieldOutside, RoomShort, LogLeftOver, RecordBroken, HeaderWrong, BytesMissing, ParcelCheckWrong, CountFull, Overloaded, SumBeyond}
+use Rattle.refusal.specs.declared.Refusal.the-variants.{BodyShort, BodyLong, HeldBroken, CheckWrong, AddressIllegal, CodeUnknown, LengthWrong, FieldOutside, RoomShort, LogLeftOver, RecordBroken, HeaderWrong, BytesMissing, ParcelCheckWrong, CountFull, Overloaded, LengthOutside, CheckRight, SumBeyond}
 use Rattle.refusal.specs.declared.Named.{Named}
 use Rattle.refusal.specs.declared.Named.the-variants as named-as
 use Rattle.refusal.specs.declared.Verdict.{Verdict}
 use Rattle.refusal.specs.declared.Verdict.the-variants.{Good, Refused}
 
 -- the column "No." of the table; 02, request 5: "20 header wrong or under 3 bytes, 21 fewer bytes than length and check need, 22 check wrong";
--- request 6: "31 first, a lent cell whose sum, sign aside, is beyond its count times 9,999,990,000,000"; "23 when a count would pass 65,535"; request 7: "24 overload"
+-- request 6: "31 first, a lent cell whose sum, sign aside, is beyond its count times 9,999,990,000,000"; "23 when a count would pass 65,535"; request 7: "24 overload";
+-- request 9: "25 body empty or over 31 bytes, 26 check already right"
 abbrev pub numberOf : Refusal → ℕ
 numberOf BodyShort = 1
 numberOf BodyLong = 2
@@ -29,11 +30,13 @@ numberOf BytesMissing = 21
 numberOf ParcelCheckWrong = 22
 numberOf CountFull = 23
 numberOf Overloaded = 24
+numberOf LengthOutside = 25
+numberOf CheckRight = 26
 numberOf SumBeyond = 31
 
 -- the table's rows from the top: the refusals in the order of their numbers, from 1, and those of 02 behind them; 12 to 19 are nobody's
 abbrev pub all : List Refusal
-all = BodyShort ∷ BodyLong ∷ HeldBroken ∷ CheckWrong ∷ AddressIllegal ∷ CodeUnknown ∷ LengthWrong ∷ FieldOutside ∷ RoomShort ∷ LogLeftOver ∷ RecordBroken ∷ HeaderWrong ∷ BytesMissing ∷ ParcelCheckWrong ∷ CountFull ∷ Overloaded ∷ SumBeyond ∷ []
+all = BodyShort ∷ BodyLong ∷ HeldBroken ∷ CheckWrong ∷ AddressIllegal ∷ CodeUnknown ∷ LengthWrong ∷ FieldOutside ∷ RoomShort ∷ LogLeftOver ∷ RecordBroken ∷ HeaderWrong ∷ BytesMissing ∷ ParcelCheckWrong ∷ CountFull ∷ Overloaded ∷ LengthOutside ∷ CheckRight ∷ SumBeyond ∷ []
 
 -- the row with a number
 unfoldable pub namedIn : List Refusal → ℕ → Named

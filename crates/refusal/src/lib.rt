@@ -21,6 +21,8 @@ pub enum Refusal {
     ParcelCheckWrong, // 22: its check wrong
     CountFull, // 23: a count of the weekday and hour table would pass 65,535
     Overloaded, // 24: the reading is marked overload, so it has no value
+    LengthOutside, // 25: a body that is empty or over 31 bytes, in which no bad bit is looked for
+    CheckRight, // 26: its check is right already
     SumBeyond, // 31: a lent cell's sum, sign aside, is beyond its count times 9,999,990,000,000
 }
 
@@ -57,11 +59,13 @@ pub fn number(refusal: Refusal) -> u8
         Refusal::ParcelCheckWrong => 22,
         Refusal::CountFull => 23,
         Refusal::Overloaded => 24,
+        Refusal::LengthOutside => 25,
+        Refusal::CheckRight => 26,
         Refusal::SumBeyond => 31,
     }
 }
 
-// Whether a line can meet the refusal with this number. The other refusals are of writing, of a log, of the parcel scales, of a table and of a value.
+// Whether a line can meet the refusal with this number. The other refusals are of writing, of a log, of the parcel scales, of a table, of a value and of a bad bit that is looked for.
 pub fn line_status(number: u8) -> bool
     ensures { λ r. ⌜ r ≡ lineStatus number ⌝ }
 {
@@ -89,6 +93,8 @@ pub fn of_number(number: u8) -> Named
         22 => Named::Refusal(Refusal::ParcelCheckWrong),
         23 => Named::Refusal(Refusal::CountFull),
         24 => Named::Refusal(Refusal::Overloaded),
+        25 => Named::Refusal(Refusal::LengthOutside),
+        26 => Named::Refusal(Refusal::CheckRight),
         31 => Named::Refusal(Refusal::SumBeyond),
         _ => Named::Unknown,
     }
