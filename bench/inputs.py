@@ -1,5 +1,5 @@
 """What the works are measured on, a megabyte each: wires for the reader and the listing, bodies for the messages, records for the log,
-parcel messages, logs for the table."""
+parcel messages, logs for the table, bodies that failed their check."""
 
 SIZE = 1_000_000
 
@@ -59,6 +59,26 @@ MIXED_BODIES = [
 ]
 
 BODIES = {"gross weights": filled(body_of(GROSS)), "mixed bodies": filled(b"".join(MIXED_BODIES))}
+
+
+def turned_over(place: int, body: bytes) -> bytes:
+    """A body with one bit turned over: the last bit has place 0."""
+    return (int.from_bytes(body, "big") ^ 1 << place).to_bytes(len(body), "big")
+
+
+def asked(bodies: list[bytes], piece: int = 32) -> bytes:
+    """Bodies, each behind its length in a piece."""
+    return filled(b"".join((bytes([len(body)]) + body).ljust(piece, b"\0") for body in bodies))
+
+
+LONGEST_ASKED = body_of(b"\x01\xc3" + b"\x22" * 28)  # 31 bytes
+
+# each of the bits of a body bad in turn; and two of them, for which no single bit would do
+FAILED = {
+    "weights, one bad bit": asked([turned_over(place, body_of(GROSS)) for place in range(56)]),
+    "31 bytes, one bad bit": asked([turned_over(place, LONGEST_ASKED) for place in range(248)]),
+    "31 bytes, no single bit": asked([b"\0" * 30 + b"\xb4"]),
+}
 
 WEIGHINGS = [record_of(1_754_000_000 + second, "01010000001060840103") for second in range(10)]
 

@@ -10,7 +10,7 @@ NEEDED = {
 }
 
 # "The finding is for the crew's sheet only" (02, request 9): laws and programs of the sheet may ask for one, and no reader, message or log does.
-FOR_THE_SHEET = {'bad_bit': ('bit_vectors', 'crew_sheet')}
+FOR_THE_SHEET = {'bad_bit': ('bit_meter', 'bit_vectors', 'crew_sheet')}
 
 
 def names(crate: str, other: str) -> bool:
