@@ -1,11 +1,11 @@
 /* The work that crates/bit_meter measures, once more in plain C: which bit of a body went bad. The check goes by the table of 256, the bit by a table of
    powers. A program of its own, as the proved one is: in plain.c gcc would make other code of the works there. */
+#include "blocks.h"
 #include "check.h"
 #include <stdint.h>
 #include <stdio.h>
-#include <unistd.h>
 
-enum { BLOCK = 56000, PIECE = 32, LONGEST_ASKED = 31, NO_BIT = -1 };
+enum { PIECE = 32, LONGEST_ASKED = 31, NO_BIT = -1 };
 
 /* The powers of x under 169h, from 0 on. */
 static const unsigned char powers[255] = {
@@ -55,12 +55,6 @@ static void find_all(struct counts *counts, const unsigned char *block, size_t l
         else counts->good++;
         counts->sum += (unsigned)(place == NO_BIT ? number : place);
     }
-}
-
-static size_t read_full(unsigned char *block) {
-    size_t done = 0;
-    for (ssize_t got; done < BLOCK && (got = read(0, block + done, BLOCK - done)) > 0;) done += (size_t)got;
-    return done;
 }
 
 int main(void) {

@@ -1,11 +1,10 @@
 /* The weekday and hour table in plain C: the yardstick of "table". Standard input is a log; one table is filled from its blocks, as crates/table_meter
    fills it, and the counts and the sum at the end are those that crates/table_meter tells. It is a program of its own, as that is. */
 #include "records.h"
-#include <stddef.h>
+#include "blocks.h"
 #include <stdio.h>
-#include <unistd.h>
 
-enum { BLOCK = 56000, WEEKDAYS = 7, HOURS = 24, SETTLED = 0x10, OVERLOAD = 0x08, MINUS = 0x80 };
+enum { WEEKDAYS = 7, HOURS = 24, SETTLED = 0x10, OVERLOAD = 0x08, MINUS = 0x80 };
 
 struct cell {
     uint16_t weights, refused;
@@ -72,12 +71,6 @@ static uint64_t sum_of_table(struct cell table[WEEKDAYS][HOURS]) {
         }
     }
     return sum;
-}
-
-static size_t read_full(unsigned char *block) {
-    size_t done = 0;
-    for (ssize_t got; done < BLOCK && (got = read(0, block + done, BLOCK - done)) > 0;) done += (size_t)got;
-    return done;
 }
 
 int main(void) {

@@ -66,7 +66,7 @@ enum {
     QUAY_COUNT_FULL = 23,     /* a count of the weekday and hour table would pass 65,535 */
     QUAY_OVERLOADED = 24,     /* bit 3 of CON, overload, is set: instead of a value */
     QUAY_LENGTH_OUTSIDE = 25, /* a body that is empty or over 31 bytes, in which no bad bit is looked for */
-    QUAY_CHECK_RIGHT = 26,    /* the check of such a body is right already */
+    QUAY_CHECK_RIGHT = 26,    /* a body of 1 to 31 bytes whose check is right already, so no bad bit is looked for */
     QUAY_SUM_BEYOND = 31      /* a lent cell of the weekday and hour table: its sum, sign aside, is beyond its count times 9,999,990,000,000 */
 };
 
@@ -78,8 +78,8 @@ enum {
  *
  * 24 is answered by quay_value, quay_difference and quay_kilograms alone. No line meets it, so that no event and no record of kind 3 can have it.
  *
- * 25 and 26 are earned where the cable crew asks which bit of a body went bad, which the Rattle library tells (`bad_bit`). No function of this header
- * answers these two, and no line meets them. */
+ * 25 and 26 are earned where the cable crew asks which single bit of a body, turned over, would make its check right. The Rattle library tells it
+ * (`bad_bit`). No function of this header answers these two, and no line meets them. */
 
 /* ---- numbers of the fields */
 

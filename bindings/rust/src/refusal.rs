@@ -41,7 +41,7 @@ pub enum Refusal {
     Overloaded = 24,
     /// 25: a body that is empty or over 31 bytes, in which no bad bit is looked for. Nothing of this crate answers 25 or 26 yet.
     LengthOutside = 25,
-    /// 26: the check of such a body is right already.
+    /// 26: a body of 1 to 31 bytes whose check is right already, so no bad bit is looked for.
     CheckRight = 26,
     /// 31: a lent cell of the weekday and hour table has a sum that is, sign aside, beyond its count times 9,999,990,000,000.
     SumBeyond = 31,

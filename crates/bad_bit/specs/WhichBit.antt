@@ -40,6 +40,6 @@ judgedFor body =
     (refuseIf (checkRight body) CheckRight
     Good)
 
--- what is said of a body
+-- what is told of a body
 unfoldable pub finding : List ℕ → Finding
 finding body = byVerdict (λ (told : Finding). told) Refused (judgedFor body) (bitThatWould body)

@@ -14,7 +14,7 @@ ghost use Rattle.bad_bit.specs.Table.{powersKept, isPower};
 // Nothing converts it to a count of bytes.
 pub struct BitPlace(pub usize);
 
-// What is said of a body that failed its check.
+// What is told of a body that failed its check.
 pub enum Finding {
     Bit(BitPlace), // turning this bit over makes the body pass, and no other bit does
     NoBit, // no single bit would
@@ -24,7 +24,7 @@ pub enum Finding {
 // The longest body in which at most one bit can make it pass; of 32 bytes two can.
 pub const LONGEST_ASKED: usize = 31;
 
-// The highest place of `bits` whose power of x is the register. One pass over the table, from the place of the first bit on.
+// The highest place of `bits` whose power of x is the register. One pass over the table, from the place of the first bit down.
 fn place_of(register: u8, bits: usize, powers: &[u8; 255]) -> Finding
     requires { ⌜ (bits ≤ 255) × (now powers ≡ powersKept) ⌝ }
     ensures { λ r. ⌜ r ≡ highestBelow bits (isPower register) ⌝ }

@@ -30,7 +30,7 @@ use Rattle.check_misses.proofs.TurnedOver.{length-turned, check-turned}
 use Rattle.bad_bit.specs.declared.Finding.{Finding}
 use Rattle.bad_bit.specs.declared.Finding.the-variants.{Bit, NoBit, Refused}
 use Rattle.bad_bit.specs.WhichBit.{passesWith, bitThatWould, finding}
-use Rattle.crew_sheet.specs.Findings.{AskedAndFails, BitTold, NoBitTold, AtMostOne, EachSaidExactly, StaysRefused, OneBadTold, TwoBadNotTold, TheRegisterTells}
+use Rattle.crew_sheet.specs.Findings.{AskedAndFails, BitTold, NoBitTold, AtMostOne, EachToldExactly, StaysRefused, OneBadTold, TwoBadNotTold, TheRegisterTells}
 use Rattle.crew_sheet.proofs.Searched.{Searched, searched}
 use Rattle.bad_bit.proofs.Asked.{is-outside, is-inside, said-outside, said-right, said-bit}
 use Rattle.crew_sheet.proofs.OnePlace.{passes-power, power-passes, place-inside, powers-differ}
@@ -140,8 +140,8 @@ one-of-two : (body : List ℕ) {why : Refusal} → WhyRefused body why → (why 
 one-of-two body (by-length is out) = inl is
 one-of-two body (by-check is some few right) = inr is
 
-pub each-said-exactly : EachSaidExactly
-each-said-exactly body = record {
+pub each-told-exactly : EachToldExactly
+each-told-exactly body = record {
   bit = λ place. (
     (λ is. let told = as-said body (Bit (record { 0 = place })) is in (told .0, told .1 .1)),
     (λ both. only-bit body place (both .0) (both .1) (finding body) (said body)),

@@ -17,6 +17,7 @@ use Rattle.bad_bit.specs.WhichBit.{passesWith, highestBelow, bitThatWould, judg
 use Rattle.crew_sheet.specs.Findings.{AskedAndFails}
 use Rattle.crew_sheet.specs.FindingsShown.{PaperShown, OneByteShown, LengthsShown, TwoWouldShown, AnyAddressShown, TwoBadShown, HandedOnShown, WireHitShown, AtTheEdges}
 use Rattle.bad_bit.proofs.Table.{table-has-powers}
+use Rattle.crew_sheet.proofs.HandedOn.{handed-on}
 use Rattle.crew_sheet.proofs.Findings.{by-place, at-most-one, one-bad-told, two-bad-not-told, the-register-tells}
 
 pub paper-shown : PaperShown
@@ -88,7 +89,10 @@ at-the-edges = record {
       omega (arith, same);
   one-bad = λ sent long passes. one-bad-told sent (omega (arith, long)) passes 247 (edge sent long 247 (lit< tt));
   two-bad = λ sent long passes is. two-bad-not-told sent passes 0 247 (edge sent long 0 (lit< tt)) (edge sent long 247 (lit< tt)) 247 is .1 refl;
+  nor-the-other = λ sent long passes is. two-bad-not-told sent passes 0 247 (edge sent long 0 (lit< tt)) (edge sent long 247 (lit< tt)) 0 is .0 refl;
   register = the-register-tells (ends-with 0xB4) last-past;
-  not-ended = λ failed. let none : _≡_ {A = ℕ} 0 0xFF = failed .by-delimiter in omega (arith, none);
+  not-ended = λ failed. omega (arith, failed .by-delimiter);
   no-byte = λ listener block kept array failed. let some = failed .some in omega (arith, some);
+  served = λ listener block used array failed. handed-on listener block used 31 array failed .served (lit≤ tt);
+  long = λ listener block used array failed. handed-on listener block used 32 array failed .long (lit< tt);
 }

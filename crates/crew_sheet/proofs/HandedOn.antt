@@ -1,4 +1,4 @@
--- Shown: after refusal 4 the first `kept` bytes of the array are the body that failed, of `take`, `feed` and `listen`; handed on, it is never refused by 26.
+-- Shown: after refusal 4 the first `kept` bytes of the array are the body that failed, of `take`, `feed`, `listen` and a walker's step; of 31 bytes at most it is asked.
 -- Why: only a body that has ended is refused by 4. Its bytes stood at the array's front, and the listener, now Delimited, laid none over them.
 use Prim.Native.Nat.{ℕ, suc, _+_, _-_}
 use mathlib.Core.Path.{_≡_, _∙_, refl, sym, ap, subst}
@@ -9,6 +9,7 @@ use native.Mathlib.Decide.{decLe}
 use native.Mathlib.Nat.{zero-add, lt-of-not-le}
 use native.Mathlib.Omega.{arith}
 use borrow.Author.Tests.{eqb-true, eqb-false}
+use denote.Ref.{now}
 use lib.Dec.{ltb, eqb, lit≤}
 use lib.ListN.{length, take, drop}
 use Rattle.refusal.specs.declared.Refusal.{Refusal}
@@ -37,11 +38,12 @@ use Rattle.line.proofs.Joined.{kept-front, joined}
 use Rattle.capture_walker.specs.declared.stepping.Next.{Next}
 use Rattle.capture_walker.specs.declared.stepping.Next.the-variants as next-as
 use Rattle.capture_walker.specs.declared.stepping.Stepped.{Stepped}
+use Rattle.capture_walker.specs.declared.walking.Walked.{Walked}
 use Rattle.capture_walker.specs.Walking.{startAt, nextOf, stepFrom}
 use Rattle.capture_walker.proofs.AtRest.{at-start}
 use Rattle.capture_walker.proofs.OneStep.{step-ends, step-hears}
-use Rattle.crew_sheet.specs.HandedOn.{BodyThatFailed, AfterListen, AfterFeed, AfterTake, AfterStep, HandedOn}
-use Rattle.crew_sheet.proofs.Findings.{each-said-exactly}
+use Rattle.crew_sheet.specs.HandedOn.{BodyThatFailed, AfterListen, AfterFeed, AfterTake, AfterStep, AfterWalkerStep, HandedOn}
+use Rattle.crew_sheet.proofs.Findings.{each-told-exactly}
 
 -- ---- one byte
 
@@ -228,11 +230,13 @@ told-of event-as.Nothing = refl
 told-of (event-as.Frame wire kept) = refl
 told-of (event-as.Refused why wire kept) = refl
 
-pub after-step : AfterStep
+-- a step that tells refusal 4
+walked : (block : List ℕ) (place : ℕ) (before : List ℕ) (wire : WirePlace) (kept : BodyPlace)
+    → stepFrom block place before .answer .next ≡ next-as.Event (event-as.Refused CheckWrong wire kept)
+    → BodyThatFailed (startAt block place) (drop place block) (stepFrom block place before .answer .place - place) (kept .0) (stepFrom block place before .body)
 unfolding told-by
-after-step block place before answered left steps wire kept is =
-    let told : told-by (stepFrom block place before .answer .next) ≡ event-as.Refused CheckWrong wire kept =
-    ap (λ (s : Stepped). told-by (s .next)) (sym (steps .answer)) ∙ ap told-by is in
+walked block place before wire kept is =
+    let told : told-by (stepFrom block place before .answer .next) ≡ event-as.Refused CheckWrong wire kept = ap told-by is in
     elim (decLe (length block) place) [
       | yes past ↦ absurd (subst IsNothing (rw (step-ends block place before past) at told) tt)
       | no within ↦
@@ -240,10 +244,19 @@ after-step block place before answered left steps wire kept is =
           let heard = fedLent (placeOf (startAt block place)) (drop place block) before in
           let four : heard .event ≡ event-as.Refused CheckWrong wire kept = sym (told-of (heard .event)) ∙ rw hears at told in
           let many : place + heard .used - place ≡ heard .used = omega arith in
-          rw (steps .answer, steps .body, hears, many)
+          rw (hears, many)
           (subst (λ (l : Listener). BodyThatFailed l (drop place block) (heard .used) (kept .0) (heard .reader .body)) (at-start block place before)
           (lent (placeOf (startAt block place)) (drop place block) before wire kept (eqb (length before) longest) refl four))
     ]
+
+pub after-step : AfterStep
+after-step block place before answered left steps wire kept is =
+    rw (steps .answer, steps .body) (walked block place before wire kept (ap (λ (s : Stepped). s .next) (sym (steps .answer)) ∙ is))
+
+pub after-walker-step : AfterWalkerStep
+after-walker-step walker before answered left steps wire kept is =
+    rw (steps .answer, steps .body)
+    (walked (now (walker .block)) (walker .place) before wire kept (ap (λ (w : Walked). w .next) (sym (steps .answer)) ∙ is))
 
 -- ---- handed on
 
@@ -263,5 +276,5 @@ handed-on listener block used kept array failed =
     let some = three body (tests .0) in
     record {
       served = λ few. record { some = omega (arith, some); few = rw (failed .whole) few; fails = eqb-false (received body) 0 (tests .1) };
-      long = λ over. each-said-exactly body .outside .1 (inr (rw (failed .whole) over));
+      long = λ over. each-told-exactly body .outside .1 (inr (rw (failed .whole) over));
     }

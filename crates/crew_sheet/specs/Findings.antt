@@ -51,24 +51,24 @@ pub record AskedAndFails (body : List ℕ) : Type 0 where
 abbrev pub ExactlyWhere : Type 0 → Type 0 → Type 0
 ExactlyWhere claim other = (claim → other) × (other → claim)
 
-pub record SaidExactly (body : List ℕ) : Type 0 where
+pub record ToldExactly (body : List ℕ) : Type 0 where
   pub bit : (place : ℕ) → ExactlyWhere (finding body ≡ Bit (record { 0 = place })) (AskedAndFails body × (Passes (turnedOver place body)))
   pub none : ExactlyWhere (finding body ≡ NoBit) (AskedAndFails body × ((place : ℕ) → Passes (turnedOver place body) → ⊥))
   pub outside : ExactlyWhere (finding body ≡ Refused LengthOutside) ((length body ≡ 0) ⊎ (31 < length body))
   pub right : ExactlyWhere (finding body ≡ Refused CheckRight) ((1 ≤ length body) × ((length body ≤ 31) × Passes body))
   pub no-other : (why : Refusal) → finding body ≡ Refused why → (why ≡ LengthOutside) ⊎ (why ≡ CheckRight)
 
-abbrev pub EachSaidExactly : Type 0
-EachSaidExactly = (body : List ℕ) → SaidExactly body
+abbrev pub EachToldExactly : Type 0
+EachToldExactly = (body : List ℕ) → ToldExactly body
 
--- "the frame stays refused": a body of which this is said is judged as before, 4, or 1 where it is short
+-- "the frame stays refused": a body that is asked and fails is judged as before, 4, or 1 where it is short
 abbrev pub StaysRefused : Type 0
 StaysRefused = (body : List ℕ) → AskedAndFails body → judgedLent body ≡ verdict-as.Refused (cond (short body) BodyShort CheckWrong)
 
 -- ---- what the crew may conclude
 
--- These speak of bodies after unstuffing, as request 8 does, "not of wires": a hit that makes or breaks an FF, or an inserted FE, gives a body of another
--- length. A bit may be told of that too, and was right (`WireHitShown`).
+-- These speak of bodies after unstuffing, as request 8 does, "not of wires": a hit that makes or breaks an FF, or an inserted FE, can give a body of
+-- another length, or none. A bit may be told of such a body too, and need not be the one that was hit (`WireHitShown`).
 
 -- One bit of a body that passes went bad, and nothing else: it is the one that is told.
 abbrev pub OneBadTold : Type 0

@@ -17,7 +17,7 @@ use Rattle.bad_bit.specs.declared.Finding.{Finding}
 use Rattle.bad_bit.specs.declared.Finding.the-variants.{Bit, NoBit, Refused}
 use Rattle.bad_bit.specs.WhichBit.{finding}
 use Rattle.bad_bit.specs.Table.{powersKept}
-use Rattle.crew_sheet.specs.Findings.{ByRegister}
+use Rattle.crew_sheet.specs.Findings.{AskedAndFails, ByRegister}
 use Rattle.crew_sheet.specs.HandedOn.{BodyThatFailed}
 
 abbrev pub bit : ℕ → Finding
@@ -67,17 +67,17 @@ pub record TwoBadShown : Type 0 where
   pub none : finding (turnedOver 0 (turnedOver 23 (0x01 ∷ 0xC3 ∷ 0xE3 ∷ []))) ≡ NoBit
 
 -- E6's first wire, heard by a reader in which an older body stands: the first three bytes of its array are the body that failed, and the last bit is told
-abbrev pub older : Reader
-older = record { place = freshReader .place; body = replicate longest 0x77 }
+abbrev pub stale : Reader
+stale = record { place = freshReader .place; body = replicate longest 0x77 }
 
 abbrev pub refusedWire : List ℕ
 refusedWire = 0xFF ∷ 0x01 ∷ 0xC3 ∷ 0xE2 ∷ 0xFF ∷ 0xFF ∷ []
 
 pub record HandedOnShown : Type 0 where
-  pub event : fed older refusedWire .event ≡ event-as.Refused CheckWrong (record { 0 = 6 }) (record { 0 = 3 })
-  pub body : take 3 (fed older refusedWire .reader .body) ≡ 0x01 ∷ 0xC3 ∷ 0xE2 ∷ []
-  pub told : finding (take 3 (fed older refusedWire .reader .body)) ≡ bit 0
-  pub place : fed older refusedWire .reader .place .kept .0 ≡ 0
+  pub event : fed stale refusedWire .event ≡ event-as.Refused CheckWrong (record { 0 = 6 }) (record { 0 = 3 })
+  pub body : take 3 (fed stale refusedWire .reader .body) ≡ 0x01 ∷ 0xC3 ∷ 0xE2 ∷ []
+  pub told : finding (take 3 (fed stale refusedWire .reader .body)) ≡ bit 0
+  pub place : fed stale refusedWire .reader .place .kept .0 ≡ 0
 
 -- E5's wire, and one bad bit on it: FD where its inner FF was. The FE behind it is kept, seven bytes fail, and the top bit of the check is told, which
 -- was right
@@ -89,16 +89,20 @@ hitWire = 0xFF ∷ 0x01 ∷ 0xA1 ∷ 0xFD ∷ 0xFE ∷ 0x00 ∷ 0x00 ∷ 0x39 �
 
 pub record WireHitShown : Type 0 where
   pub one-bit : differing serialWire hitWire ≡ 49 ∷ []
-  pub heard : fed older hitWire .event ≡ event-as.Refused CheckWrong (record { 0 = 10 }) (record { 0 = 7 })
-  pub told : finding (take 7 (fed older hitWire .reader .body)) ≡ bit 7
+  pub heard : fed stale hitWire .event ≡ event-as.Refused CheckWrong (record { 0 = 10 }) (record { 0 = 7 })
+  pub told : finding (take 7 (fed stale hitWire .reader .body)) ≡ bit 7
 
--- the laws at their edges: the table's last entry; of 31 bytes the first and the last bit; the last of the seven powers past them; and a block that ended
--- before the FF that ends a body
+-- the laws at their edges: the table's last entry; of 31 bytes the first and the last bit; the last of the seven powers past them; a block that ended
+-- before the FF that ends a body, and no block at all; the longest body that is served, and the shortest that is too long
 pub record AtTheEdges : Type 0 where
   pub table : getD powersKept 254 0 ≡ power 254
   pub at-most-one : (body : List ℕ) → length body ≡ 31 → Passes (turnedOver 247 body) → Passes (turnedOver 0 body) → ⊥
   pub one-bad : (sent : List ℕ) → length sent ≡ 31 → Passes sent → finding (turnedOver 247 sent) ≡ bit 247
   pub two-bad : (sent : List ℕ) → length sent ≡ 31 → Passes sent → finding (turnedOver 0 (turnedOver 247 sent)) ≡ bit 247 → ⊥
+  pub nor-the-other : (sent : List ℕ) → length sent ≡ 31 → Passes sent → finding (turnedOver 0 (turnedOver 247 sent)) ≡ bit 0 → ⊥
   pub register : ByRegister (replicate 30 0x00 ++ (0xB4 ∷ []))
-  pub not-ended : BodyThatFailed (view older) (0xFF ∷ 0x01 ∷ 0xC3 ∷ 0xE2 ∷ 0xFF ∷ []) 6 3 (fed older refusedWire .reader .body) → ⊥
+  pub not-ended : BodyThatFailed (view stale) (0xFF ∷ 0x01 ∷ 0xC3 ∷ 0xE2 ∷ 0xFF ∷ []) 6 3 (fed stale refusedWire .reader .body) → ⊥
   pub no-byte : (listener : Listener) (block : List ℕ) (kept : ℕ) (array : List ℕ) → BodyThatFailed listener block 0 kept array → ⊥
+  pub served : (listener : Listener) (block : List ℕ) (used : ℕ) (array : List ℕ) → BodyThatFailed listener block used 31 array → AskedAndFails (take 31 array)
+  pub long : (listener : Listener) (block : List ℕ) (used : ℕ) (array : List ℕ) → BodyThatFailed listener block used 32 array
+      → finding (take 32 array) ≡ Refused LengthOutside

@@ -4,6 +4,7 @@
 use Prim.Native.Nat.{ℕ, _-_, _≤_, _<_}
 use mathlib.Core.Path.{_≡_}
 use mathlib.Core.List.{List, [], _∷_}
+use denote.Ref.{now}
 use lib.ListN.{length, take, drop, getD}
 use Rattle.refusal.specs.declared.Refusal.the-variants.{CheckWrong, LengthOutside}
 use Rattle.refusal.specs.declared.Verdict.the-variants as verdict-as
@@ -20,7 +21,10 @@ use Rattle.line.specs.Listener.{held, Listener, after}
 use Rattle.line.specs.Readers.{listening, view, Takes, Feeds, Listens}
 use Rattle.capture_walker.specs.declared.stepping.Next.the-variants as next-as
 use Rattle.capture_walker.specs.declared.stepping.Stepped.{Stepped}
+use Rattle.capture_walker.specs.declared.walking.Walker.{Walker}
+use Rattle.capture_walker.specs.declared.walking.Walked.{Walked}
 use Rattle.capture_walker.specs.Walking.{startAt, StepsFrom}
+use Rattle.capture_walker.specs.Walkers.{WalkerSteps}
 use Rattle.bad_bit.specs.declared.Finding.the-variants.{Refused}
 use Rattle.bad_bit.specs.WhichBit.{finding}
 use Rattle.crew_sheet.specs.Findings.{AskedAndFails}
@@ -54,12 +58,19 @@ AfterTake =
     → (wire : WirePlace) (kept : BodyPlace) → answered .event ≡ event-as.Refused CheckWrong wire kept
     → BodyThatFailed (view reader) (byte ∷ []) 1 (kept .0) (answered .reader .body)
 
--- a capture that is walked: the lent bytes behind a step, which heard the rest of the block from its place on
+-- a capture that is walked, by `step_from` or by a walker: the lent bytes behind a step, which heard the rest of the block from its place on
 abbrev pub AfterStep : Type 0
 AfterStep =
     (block : List ℕ) (place : ℕ) (lent : List ℕ) (answered : Stepped) (left : List ℕ) → StepsFrom block place lent answered left
     → (wire : WirePlace) (kept : BodyPlace) → answered .next ≡ next-as.Event (event-as.Refused CheckWrong wire kept)
     → BodyThatFailed (startAt block place) (drop place block) (answered .place - place) (kept .0) left
+
+abbrev pub AfterWalkerStep : Type 0
+AfterWalkerStep =
+    (walker : Walker) (lent : List ℕ) (answered : Walked) (left : List ℕ) → WalkerSteps walker lent answered left
+    → (wire : WirePlace) (kept : BodyPlace) → answered .next ≡ next-as.Event (event-as.Refused CheckWrong wire kept)
+    → let block = now (walker .block) in let place = walker .place in
+    BodyThatFailed (startAt block place) (drop place block) (answered .walker .place - place) (kept .0) left
 
 -- so what is handed on is a body that is asked and fails, unless it has over 31 bytes: then, and only then, it is refused, by 25
 pub record ServedOrLong (kept : ℕ) (body : List ℕ) : Type 0 where

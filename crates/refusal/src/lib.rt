@@ -22,7 +22,7 @@ pub enum Refusal {
     CountFull, // 23: a count of the weekday and hour table would pass 65,535
     Overloaded, // 24: the reading is marked overload, so it has no value
     LengthOutside, // 25: a body that is empty or over 31 bytes, in which no bad bit is looked for
-    CheckRight, // 26: its check is right already
+    CheckRight, // 26: a body of 1 to 31 bytes whose check is right already, in which no bad bit is looked for
     SumBeyond, // 31: a lent cell's sum, sign aside, is beyond its count times 9,999,990,000,000
 }
 
