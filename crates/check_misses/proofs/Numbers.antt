@@ -12,7 +12,7 @@ use lib.ListN.{length, length-reverse, getD}
 use lib.Bits.{bitXor, xor-shr, xor-mod, xor-lt, xor-self, xor-zero-l}
 use lib.Pow.{areBytes, field, mod-mod-pow, shr-shr, pow-add}
 use Rattle.laws.proofs.ByteLists.{bytes-one-more}
-use Rattle.register.proofs.Bits.{bit, bit-cases, xor-assoc, xor-zero-eq}
+use Rattle.register.proofs.Bits.{xor-assoc, xor-zero-eq, xor-test}
 use Rattle.low_first.specs.LowFirst.{lowFirst, lowBytes}
 use Rattle.low_first.proofs.Digits.{bytes-back}
 use Rattle.check_byte.specs.Register.{feedBits, feedByte, feedAll, received}
@@ -139,11 +139,6 @@ fed-of body all =
 abbrev pub between : List ℕ → List ℕ → ℕ
 between first second = bitXor (numberOf first) (numberOf second)
 
-eqb-xor : (x y : ℕ) → x < 2 → y < 2 → eqb x y ≡ eqb (bitXor x y) 0
-eqb-xor x y hx hy =
-    bit-cases (λ (x : ℕ). eqb x y ≡ eqb (bitXor x y) 0) (bit-cases (λ (y : ℕ). eqb 0 y ≡ eqb (bitXor 0 y) 0) refl refl y hy)
-    (bit-cases (λ (y : ℕ). eqb 1 y ≡ eqb (bitXor 1 y) 0) refl refl y hy) x hx
-
 module _ (first second : List ℕ) (alike : EquallyLong first second) where
   pub between-below : between first second < 2 ^ bitsOf first
   between-below =
@@ -157,7 +152,7 @@ module _ (first second : List ℕ) (alike : EquallyLong first second) where
       let bits : bitOf place (bitXor a b) ≡ bitXor (bitOf place a) (bitOf place b) =
       ap (λ (n : ℕ). n % 2) (xor-shr a b place) ∙ xor-mod (a / 2 ^ place) (b / 2 ^ place) 1 in
       rw (bit-of first (alike .bytes) place, bit-of second (alike .bytes-too) place, bits)
-      (eqb-xor (bitOf place a) (bitOf place b) (bit (a / 2 ^ place)) (bit (b / 2 ^ place)))
+      (sym (xor-test (bitOf place a) (bitOf place b)))
 
   pub differing-ones : (count : ℕ) → differingBelow count first second ≡ ones count (between first second)
   unfolding differingBelow ones

@@ -6,6 +6,7 @@ use mathlib.Core.List.{List}
 use mathlib.Core.Logic.{_⊎_}
 use lib.ListN.{length}
 use lib.Dec.{ltb}
+use Rattle.laws.specs.Exactly.{ExactlyWhere}
 use Rattle.refusal.specs.declared.Refusal.{Refusal}
 use Rattle.refusal.specs.declared.Refusal.the-variants.{BodyShort, CheckWrong, LengthOutside, CheckRight}
 use Rattle.refusal.specs.declared.Verdict.the-variants as verdict-as
@@ -48,9 +49,6 @@ pub record AskedAndFails (body : List ℕ) : Type 0 where
   pub fails : Passes body → ⊥
 
 -- each answer is given exactly where the request says
-abbrev pub ExactlyWhere : Type 0 → Type 0 → Type 0
-ExactlyWhere claim other = (claim → other) × (other → claim)
-
 pub record ToldExactly (body : List ℕ) : Type 0 where
   pub bit : (place : ℕ) → ExactlyWhere (finding body ≡ Bit (record { 0 = place })) (AskedAndFails body × (Passes (turnedOver place body)))
   pub none : ExactlyWhere (finding body ≡ NoBit) (AskedAndFails body × ((place : ℕ) → Passes (turnedOver place body) → ⊥))

@@ -19,7 +19,7 @@ use Rattle.parcel_scale.specs.declared.parcels.Parcel.{Parcel}
 use Rattle.parcel_scale.specs.Layouts.{rowIn, rowOf, inValues}
 use Rattle.parcel_scale.specs.Writing.{fieldsOf, parcelBytes, legalFields, judgedParcel}
 use Rattle.parcel_scale.proofs.Values.{word-most}
-use Rattle.demands.specs.Messages.{ExactlyWhere}
+use Rattle.laws.specs.Exactly.{ExactlyWhere}
 use Rattle.demands.specs.Parcels.{WritingInOrder, LegalExactly}
 use Rattle.demands.proofs.ParcelRows.{has-row}
 use Rattle.demands.proofs.TestsInOrder.{Test, must, mustFit, judged, exactly, all-pass, through}

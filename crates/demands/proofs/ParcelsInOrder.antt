@@ -22,7 +22,7 @@ use Rattle.parcel_scale.specs.declared.reading.ParcelRead.the-variants as read-
 use Rattle.parcel_scale.specs.Frame.{headed, needs, bodyIn}
 use Rattle.parcel_scale.specs.Layouts.{Found, known, unknown, rowOf, numbersIn}
 use Rattle.parcel_scale.specs.Reading.{sized, within, whole, checked, readRow, readCode, readBody, judgedFrame, afterFrame, readParcel}
-use Rattle.demands.specs.Messages.{ExactlyWhere}
+use Rattle.laws.specs.Exactly.{ExactlyWhere}
 use Rattle.demands.specs.Parcels.{ofRow, codeKnown, dataLengthRight, dataFieldsRight, Accepts, OneAnswerInOrder, BehindTheCheck}
 use Rattle.demands.proofs.ParcelFrames.{Pieces, pieces-of, pieces-more, needs-in, body-in, check-in, whole-in, headed-in}
 use Rattle.demands.proofs.TestsInOrder.{Test, must, judged, exactly, AllPass, all-pass, through}

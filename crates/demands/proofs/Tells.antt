@@ -42,7 +42,8 @@ use Rattle.demands.specs.CaptureWalks.{Lends, Walk, EndsForEver, endFrom
 use Rattle.demands.specs.Counts.{Within, Carries}
 use Rattle.demands.specs.HighAddresses.{NoFive, WrittenWithoutFive, fromFE}
 use Rattle.demands.specs.Kept.{WeightReply}
-use Rattle.demands.specs.Messages.{ExactlyWhere, FirstToFail}
+use Rattle.laws.specs.Exactly.{ExactlyWhere}
+use Rattle.demands.specs.Messages.{FirstToFail}
 use Rattle.demands.specs.Shown.{plain}
 use Rattle.demands.specs.Unheard.{NotesItsWeight}
 use Rattle.demands.specs.WalkersWalk.{WalkersWalk, WalkerTells}

@@ -14,7 +14,7 @@ use Rattle.refusal.specs.declared.Verdict.the-variants.{Good, Refused}
 use Rattle.refusal.specs.Numbers.{numberOf, verdictNumber, refuseIf}
 use Rattle.refusal.proofs.Distinct.{distinct}
 use Rattle.refusal.proofs.Verdicts.{refused-not-good}
-use Rattle.demands.specs.Messages.{ExactlyWhere}
+use Rattle.laws.specs.Exactly.{ExactlyWhere}
 
 pub through : {A B C : Type 0} → ExactlyWhere A B → ExactlyWhere B C → ExactlyWhere A C
 through p q = (λ a. q .0 (p .0 a), λ c. p .1 (q .1 c))

@@ -9,6 +9,7 @@ use lib.Dec.{T}
 use lib.ListN.{length, take}
 use lib.Seq.{slice}
 use lib.Pow.{areBytes}
+use Rattle.laws.specs.Exactly.{ExactlyWhere}
 use Rattle.refusal.specs.declared.Refusal.{Refusal}
 use Rattle.refusal.specs.declared.Refusal.the-variants.{AddressIllegal, CodeUnknown, LengthWrong, FieldOutside}
 use Rattle.refusal.specs.declared.Verdict.{Verdict}
@@ -60,10 +61,6 @@ AcceptedWritesBack =
     → WrittenAgain role family body message (slice (message .from) (message .to) body)
 
 -- ---- "a message is refused by 6, 7, 8 exactly as the table says"
-
--- a claim holds exactly where another does
-abbrev pub ExactlyWhere : Type 0 → Type 0 → Type 0
-ExactlyWhere claim other = (claim → other) × (other → claim)
 
 -- the first of three tests that fails refuses: 6, 7, 8 in this order; if all three hold, what is judged after them decides
 pub record FirstToFail (known sized right : Bool) (after verdict : Verdict) : Type 0 where

@@ -27,7 +27,8 @@ use Rattle.parcel_scale.specs.Layouts.{Row, Found, known, unknown, rowOf}
 use Rattle.parcel_scale.specs.Reading.{sized, within, whole, checked, readParcel}
 use Rattle.parcel_scale.specs.Value.{divisionOf, parcelValue}
 use Rattle.parcel_scale.specs.Writing.{parcelBytes, legalFields, judgedParcel, writtenParcel}
-use Rattle.demands.specs.Messages.{ExactlyWhere, writtenBytes}
+use Rattle.laws.specs.Exactly.{ExactlyWhere}
+use Rattle.demands.specs.Messages.{writtenBytes}
 
 -- a message whose tare or count is "a signed 32-bit" number, as every message that a program can hold
 abbrev pub OfItsTypes : Parcel → Type 0

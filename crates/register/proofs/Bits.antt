@@ -2,8 +2,10 @@
 -- Why: by halving, since the operation goes digit by digit and a single digit has four cases.
 use Prim.Native.Nat.{ℕ, zero, suc, _+_, _*_, _/_, _%_, _<_}
 use mathlib.Core.Path.{_≡_, _∙_, refl, sym, ap, ap₂}
+use mathlib.Core.Bool.{Bool, true, false}
 use native.Mathlib.Nat.{mod-lt, not-suc-le-zero, le-of-suc-le-suc}
-use lib.Dec.{lit<}
+use borrow.Author.Tests.{eq-eqb, ne-eqb, eqb-true, eqb-false}
+use lib.Dec.{eqb, lit<}
 use lib.Bits.{bitXor, differ, xor-step, xor-shr, xor-zero-l, xor-zero-r, xor-self, xor-comm}
 use lib.Arith.{bin-ind, digits-mod}
 
@@ -53,3 +55,11 @@ pub xor-zero-eq : (a b : ℕ) → bitXor a b ≡ 0 → a ≡ b
 xor-zero-eq a b none =
     sym (xor-zero-r a) ∙ ap (λ (n : ℕ). bitXor a n) (sym (xor-self b)) ∙ sym (xor-assoc a b b) ∙ ap (λ (n : ℕ). bitXor n b) none
     ∙ xor-zero-l b
+
+-- as a test: two numbers are the same exactly where they fold to 0
+pub xor-test : (a b : ℕ) → eqb (bitXor a b) 0 ≡ eqb a b
+xor-test a b = by-test (eqb a b) refl
+  where
+    by-test : (same : Bool) → eqb a b ≡ same → eqb (bitXor a b) 0 ≡ same
+    by-test true is = let e : a ≡ b = eqb-true a b is in eq-eqb (bitXor a b) 0 (ap (λ (n : ℕ). bitXor n b) e ∙ xor-self b)
+    by-test false is = ne-eqb (bitXor a b) 0 (λ none. eqb-false a b is (xor-zero-eq a b none))
