@@ -1,5 +1,8 @@
 // Which bit of a body went bad (02, request 9). The finding is for the cable crew's sheet. The frame stays refused: nothing here hands out a mended body,
 // and no reader, message or log asks this crate.
+
+#![tactic(auto)]
+
 mod powers;
 
 ghost use Rattle.std.specs.Prelude.{◌≡◌, ◌≤◌};
@@ -12,11 +15,11 @@ use refusal::Refusal;
 
 // How many bits stand behind a bit in its body, inserted FEs taken out: the low bit of the last byte has place 0, the low bit of the byte ahead of it 8.
 // Nothing converts it to a count of bytes.
-#[derive(Drop)]
+#[derive(Clone, Copy)]
 pub struct BitPlace(pub usize);
 
 // What is told of a body that failed its check.
-#[derive(Drop)]
+#[derive(Clone, Copy)]
 pub enum Finding {
     Bit(BitPlace), // turning this bit over makes the body pass, and no other bit does
     NoBit, // no single bit would

@@ -1,6 +1,9 @@
 // bench/run measures with this program what looking for a bad bit costs. Each piece of 32 bytes of standard input has a length and a body of at most 31
 // bytes: of one fixed length the compiler would make another program. At the end it tells how many had a bit that would do, how many had none or were
 // refused, and a sum of places and refusals. The same work in C tells the same.
+
+#![tactic(auto)]
+
 use bad_bit::{Finding, find};
 use libc::{STDIN_FILENO, STDOUT_FILENO};
 use refusal::number;
@@ -11,7 +14,7 @@ const PIECE: usize = 32;
 
 const BLOCK: usize = 56_000;
 
-#[derive(Drop)]
+#[derive(Clone, Copy)]
 struct Told {
     good: u64,
     refused: u64,

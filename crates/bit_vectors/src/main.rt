@@ -3,6 +3,9 @@
 //
 // A case on standard input is one byte for its function, two bytes of length and a text. The answer on standard output is a line: the function's number,
 // and the words of the answer, numbers in decimal. tests/model/README.md has the layouts.
+
+#![tactic(auto)]
+
 ghost use Rattle.std.specs.Prelude.{◌≤◌};
 
 use bad_bit::{Finding, find};

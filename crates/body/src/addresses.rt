@@ -2,7 +2,7 @@
 ghost use Rattle.std.specs.Prelude.{◌≡◌};
 ghost use Rattle.body.specs.Addresses.{legal, first_byte, serial_of};
 
-#[derive(Drop)]
+#[derive(Clone, Copy)]
 pub enum Address {
     Short(u8),
     Serial(u32),

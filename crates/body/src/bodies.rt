@@ -12,7 +12,7 @@ use refusal::{Refusal, Verdict};
 pub const LONGEST_BODY: usize = 255;
 
 // The parts of a body. Its data are the bytes from place `from` up to but not including place `to`. The check stands at `to`.
-#[derive(Drop)]
+#[derive(Clone, Copy)]
 pub struct Parts {
     pub address: Address,
     pub code: u8,
@@ -21,7 +21,7 @@ pub struct Parts {
 }
 
 // A lent body taken apart, or the refusal it earns.
-#[derive(Drop)]
+#[derive(Clone, Copy)]
 pub enum Opened {
     Parts(Parts),
     Refused(Refusal),

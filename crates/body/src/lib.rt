@@ -1,4 +1,7 @@
 // The body: what an address is, what a body is, how a body is judged, and where each part stands in it (01, "The frame").
+
+#![tactic(auto)]
+
 mod addresses;
 mod bodies;
 

@@ -1,4 +1,7 @@
 // A whole capture, walked event by event without feeding bytes (02, request 2).
+
+#![tactic(auto)]
+
 mod starting;
 mod stepping;
 mod walking;

@@ -7,7 +7,7 @@ use body::LONGEST_BODY;
 use line::Event;
 
 // What a step answers: the next event, or "end".
-#[derive(Drop)]
+#[derive(Clone, Copy)]
 pub enum Next {
     End,
     Event(Event),
@@ -15,7 +15,7 @@ pub enum Next {
 
 // A step's answer, and the place behind it. To go on from the place behind an event is to walk on, also if the block has grown since. Behind "end" a
 // body may be cut off: who waits for more of it goes on from the place behind the last event.
-#[derive(Drop)]
+#[derive(Clone, Copy)]
 pub struct Stepped {
     pub next: Next,
     pub place: usize,

@@ -5,14 +5,14 @@ ghost use Rattle.capture_walker.specs.Walkers.{walker_at, WalkerSteps};
 
 use crate::stepping::{Next, step_from};
 
-#[derive(Drop)]
+#[derive(Clone, Copy)]
 pub struct Walker<'a> {
     pub block: &'a [u8],
     pub place: usize,
 }
 
 // "each step answers the next event and the walker moved on"
-#[derive(Drop)]
+#[derive(Clone, Copy)]
 pub struct Walked<'a> {
     pub next: Next,
     pub walker: Walker<'a>,

@@ -4,6 +4,9 @@
 // A wide number stands for the register that its bits make of an empty one. Under 169h sixteen zero bits make of a register what one makes
 // of it, with the register itself folded in. So thirty-two make of it what two make of it, with the register itself folded in. That is how
 // what stands above 16 or 32 bits of a wide number is folded in below.
+
+#![tactic(auto)]
+
 ghost use Rattle.std.specs.Prelude.{◌≡◌, ◌<◌, ◌+◌, ◌*◌, ◌/◌, ◌%◌};
 ghost use Rattle.check_byte.specs.Register.{feed_bits, feed_byte, feed_all, check_of};
 ghost use Rattle.std.specs.Int.Bits.{bit_xor};

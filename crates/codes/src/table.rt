@@ -3,21 +3,21 @@ ghost use Rattle.std.specs.Prelude.{◌≡◌};
 ghost use Rattle.codes.specs.Table.{line_of, row_of, in_table, among};
 ghost use Rattle.codes.specs.Lengths.{length_of, length_right};
 
-#[derive(Drop)]
+#[derive(Clone, Copy)]
 pub enum Role {
     Request,
     Reply,
 }
 
 // Which weight a terminal tells.
-#[derive(Drop)]
+#[derive(Clone, Copy)]
 pub enum Load {
     Net,
     Gross,
 }
 
 // The values of NUM, by what it names.
-#[derive(Drop)]
+#[derive(Clone, Copy)]
 pub enum Num {
     Printers, // 03 or 13
     Indicators, // 1F, 20 or 21
@@ -25,7 +25,7 @@ pub enum Num {
 }
 
 // What the data of a message are. A row knows no code. If two lines have the same data, one row stands in both.
-#[derive(Drop)]
+#[derive(Clone, Copy)]
 pub enum Row {
     Unknown, // not in the table
     Empty, // none
@@ -42,11 +42,11 @@ pub enum Row {
 }
 
 // A line of the table: request data, reply data.
-#[derive(Drop)]
+#[derive(Clone, Copy)]
 pub struct Line(pub Row, pub Row);
 
 // How many data bytes a row has.
-#[derive(Drop)]
+#[derive(Clone, Copy)]
 pub enum Length {
     Exactly(usize),
     Counted, // 2 and as many as the second byte says

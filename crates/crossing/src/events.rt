@@ -7,7 +7,7 @@ use refusal::{Named, Refusal, line_status, of_number};
 
 // An event of the line.
 #[repr(C)]
-#[derive(Drop)]
+#[derive(Clone, Copy)]
 pub struct QuayEvent {
     pub wire: u64, // the place on the wire
     pub kept: usize, // the place in the body; for a frame, how many bytes its body has
@@ -16,7 +16,7 @@ pub struct QuayEvent {
 }
 
 // An event that was handed in, or why it is no event.
-#[derive(Drop)]
+#[derive(Clone, Copy)]
 pub enum Given {
     Event(Event),
     Refused(Refusal),

@@ -6,7 +6,7 @@ use refusal::Refusal;
 use weight::{Family, FamilyNamed, family_named};
 
 // A family that was handed in, or why it is no family.
-#[derive(Drop)]
+#[derive(Clone, Copy)]
 pub enum FamilySaid {
     Family(Family),
     Refused(Refusal),

@@ -1,4 +1,7 @@
 // What several exported functions share: events, roles, families and the answer of a write, as numbers and small structs by value.
+
+#![tactic(auto)]
+
 mod events;
 mod families;
 mod roles;

@@ -6,7 +6,7 @@ use codes::Role;
 use refusal::Refusal;
 
 // A role that was handed in, or why it is no role.
-#[derive(Drop)]
+#[derive(Clone, Copy)]
 pub enum Asked {
     Role(Role),
     Refused(Refusal),

@@ -8,7 +8,7 @@ use room::Written;
 
 // What a write answers: its own length, or length 0 beside the refusal's number. A refused write leaves every lent byte as it stood.
 #[repr(C)]
-#[derive(Drop)]
+#[derive(Clone, Copy)]
 pub struct QuayWritten {
     pub length: usize,
     pub refusal: u8,

@@ -13,7 +13,7 @@ use room::front;
 use weight::{Family, Reading};
 
 // What is to be listed.
-#[derive(Drop)]
+#[derive(Clone, Copy)]
 pub enum Entry {
     Nothing,
     Weight(Load, Address, Reading),

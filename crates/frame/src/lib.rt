@@ -1,4 +1,7 @@
 // The frame: stuffing, the room that a frame needs, and frame writing (01, "The frame").
+
+#![tactic(auto)]
+
 mod writing;
 
 pub use writing::{Needed, room_needed, write};

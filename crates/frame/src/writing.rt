@@ -14,7 +14,7 @@ use refusal::{Refusal, Verdict};
 use room::{Written, lay, lay_byte, lay_low, refused_write};
 
 // The room that a frame needs, or the refusal that its address or its length earns.
-#[derive(Drop)]
+#[derive(Clone, Copy)]
 pub enum Needed {
     Bytes(usize),
     Refused(Refusal),

@@ -9,7 +9,7 @@ use refusal::Refusal;
 const HIGHEST: u16 = 65_535;
 
 // The cell with one more in it, or why it stays as it was.
-#[derive(Drop)]
+#[derive(Clone, Copy)]
 pub enum Added {
     Cell(Cell),
     Refused(Refusal),

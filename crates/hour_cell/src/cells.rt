@@ -8,7 +8,7 @@ pub(crate) const LARGEST: u64 = 9_999_990_000_000;
 // What was noted in an hour of a weekday. Where the count of weights is 0 no weight was heard that counts, and the sum says nothing: `hour_mean`
 // answers "no readings" then. Lorries may have stood there: `refused` tells what came and could not be read, an overloaded lorry stands in neither
 // count, and silence leaves no record.
-#[derive(Drop)]
+#[derive(Clone, Copy)]
 pub struct Cell {
     pub weights: u16, // settled gross weights without overload
     pub refused: u16, // records of a refusal met on the line

@@ -9,7 +9,7 @@ use records::{Record, is_good, kind_of, weight_noted};
 use refusal::Refusal;
 use weight::{Read, Reading, Value, value_of};
 
-#[derive(Drop)]
+#[derive(Clone, Copy)]
 pub enum CountsAs {
     Weight(i64), // a settled gross weight without overload: its value in tenths of a milligram
     Met, // a refusal met on the line: a refused record of its cell (`add_refused`)

@@ -1,4 +1,7 @@
 // One record and its cell of the weekday and hour table: which cell it belongs to, what it counts as, and the cell with it (02, request 6).
+
+#![tactic(auto)]
+
 mod adding;
 mod cells;
 mod counting;

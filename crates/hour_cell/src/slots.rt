@@ -8,7 +8,7 @@ const HOUR: u64 = 3_600;
 const DAY: u64 = 86_400;
 
 // A cell's place in the table.
-#[derive(Drop)]
+#[derive(Clone, Copy)]
 pub struct Slot {
     pub weekday: usize, // 0 Monday to 6 Sunday
     pub hour: usize, // 0 to 23

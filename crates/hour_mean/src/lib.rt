@@ -1,4 +1,7 @@
 // The mean of a cell: a fraction in lowest terms, or "no readings", and never a zero for what was not heard (02, request 6).
+
+#![tactic(auto)]
+
 ghost use Rattle.std.specs.Prelude.{◌≡◌, ◌<◌};
 ghost use Rattle.hour_mean.specs.Means.{greatest_common, mean_of};
 ghost use Rattle.hour_mean.specs.declared.Mean.TheVariants as mean_as;
@@ -7,14 +10,14 @@ use hour_cell::{Cell, is_sound, size_of};
 use refusal::Refusal;
 
 // An exact mean, in tenths of a milligram.
-#[derive(Drop)]
+#[derive(Clone, Copy)]
 pub struct Fraction {
     pub upper: i64,
     pub lower: i64, // 1 to 65,535
 }
 
 // What the weights of an hour come to.
-#[derive(Drop)]
+#[derive(Clone, Copy)]
 pub enum Mean {
     Fraction(Fraction),
     NoReadings,

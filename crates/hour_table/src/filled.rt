@@ -7,7 +7,7 @@ use refusal::Verdict;
 
 // The table after the records that went in, how many they are, and the refusal that stopped it, or Good. Look at the verdict first: behind a refusal the
 // rest of the log is not in the table.
-#[derive(Drop)]
+#[derive(Clone, Copy)]
 pub struct Filled {
     pub table: [[Cell; 24]; 7],
     pub records: usize,

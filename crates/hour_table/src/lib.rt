@@ -1,4 +1,7 @@
 // The table of weekdays and hours, and records into it: one, or a whole log (02, request 6).
+
+#![tactic(auto)]
+
 mod filled;
 mod filling;
 mod tables;

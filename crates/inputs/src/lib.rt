@@ -1,4 +1,7 @@
 // The 32 inputs of a terminal (code C4): how many are on.
+
+#![tactic(auto)]
+
 ghost use Rattle.std.specs.Prelude.{◌≡◌};
 ghost use Rattle.inputs.specs.On.{inputs_on};
 

@@ -1,4 +1,7 @@
 // The weight in kilograms as a 64-bit float, for the model (01, "Weight").
+
+#![tactic(auto)]
+
 ghost use Rattle.std.specs.Prelude.{◌≡◌};
 ghost use Rattle.kilograms.specs.Rounded.{kilograms_of};
 
@@ -6,7 +9,7 @@ use refusal::Refusal;
 use weight::{Reading, Value};
 
 // A float of kilograms, or why there is none. A refused reading never becomes a weight of nothing.
-#[derive(Drop)]
+#[derive(Clone, Copy)]
 pub enum Kilograms {
     Number(f64),
     Refused(Refusal),

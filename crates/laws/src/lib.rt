@@ -1,1 +1,3 @@
 // Laws that every crate cites: it has no code.
+
+#![tactic(auto)]

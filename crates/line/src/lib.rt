@@ -1,4 +1,7 @@
 // The line: a reader that takes one byte at a time, or a block, and gives events.
+
+#![tactic(auto)]
+
 mod listening;
 mod places;
 mod reading;

@@ -5,7 +5,7 @@ ghost use Rattle.line.specs.Readers.{Listens};
 use crate::places::{Event, Place};
 
 // What a block gives a place: the next place, the first event, and how many bytes of the block were taken.
-#[derive(Drop)]
+#[derive(Clone, Copy)]
 pub struct Went {
     pub place: Place,
     pub event: Event,

@@ -10,15 +10,15 @@ use refusal::{Refusal, Verdict};
 use std::num::wrapping_add_u64;
 
 // Bytes taken since the reader started, modulo 2^64, up to and including the byte that gave the event.
-#[derive(Drop)]
+#[derive(Clone, Copy)]
 pub struct WirePlace(pub u64);
 
 // Body bytes kept at that moment. Nothing converts one of the two to the other.
-#[derive(Drop)]
+#[derive(Clone, Copy)]
 pub struct BodyPlace(pub usize);
 
 // The four states of listening.
-#[derive(Drop)]
+#[derive(Clone, Copy)]
 pub enum Phase {
     Seeking,
     Delimited,
@@ -27,7 +27,7 @@ pub enum Phase {
 }
 
 // What a byte gives: mostly nothing. Otherwise a frame or a refusal, each with its two places.
-#[derive(Drop)]
+#[derive(Clone, Copy)]
 pub enum Event {
     Nothing,
     Frame(WirePlace, BodyPlace),
@@ -35,7 +35,7 @@ pub enum Event {
 }
 
 // Where a reader stands. The bytes it keeps are held beside it.
-#[derive(Drop)]
+#[derive(Clone, Copy)]
 pub struct Place {
     pub phase: Phase,
     pub wire: WirePlace,
@@ -43,7 +43,7 @@ pub struct Place {
 }
 
 // A place and the event that led there.
-#[derive(Drop)]
+#[derive(Clone, Copy)]
 pub struct Moved {
     pub place: Place,
     pub event: Event,

@@ -5,21 +5,21 @@ ghost use Rattle.line.specs.Readers.{Takes, Feeds, fresh_reader};
 use crate::places::{Event, Place};
 
 // The state of a reader. The kept bytes stand at the front of `body`. The bytes behind them are of older bodies.
-#[derive(Drop)]
+#[derive(Clone, Copy)]
 pub struct Reader {
     pub place: Place,
     pub body: [u8; 255],
 }
 
 // What one byte gives: the next state, and the event.
-#[derive(Drop)]
+#[derive(Clone, Copy)]
 pub struct Taken {
     pub reader: Reader,
     pub event: Event,
 }
 
 // What a block gives: the next state, the first event, and how many bytes of the block were taken.
-#[derive(Drop)]
+#[derive(Clone, Copy)]
 pub struct Fed {
     pub reader: Reader,
     pub event: Event,

@@ -3,6 +3,9 @@
 //
 // The program streams. It holds only one block, one page of lines on their way out, and the reader. If something cannot be read or written,
 // standard error says so, and there is no total line. So a cut listing never looks whole.
+
+#![tactic(auto)]
+
 mod page;
 mod telling;
 
@@ -12,7 +15,7 @@ use telling::{Tally, list_block, tell_total};
 use weight::{Family, FamilyNamed};
 
 // What is known between two blocks: whether more may follow, and whether nothing failed so far.
-#[derive(Drop)]
+#[derive(Clone, Copy)]
 struct Run {
     tally: Tally,
     more: bool,

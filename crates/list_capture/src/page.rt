@@ -3,7 +3,7 @@ use libc::{STDERR_FILENO, STDOUT_FILENO};
 use room::lay;
 
 // How much of the page is filled, and whether every line so far came onto a page and every page went out.
-#[derive(Drop)]
+#[derive(Clone, Copy)]
 pub(crate) struct Page {
     pub(crate) used: usize,
     pub(crate) whole: bool,

@@ -12,7 +12,7 @@ use weight::Family;
 // No line of a listing is longer (law `total_length` of `listing`).
 const LONGEST_LINE: usize = 85;
 
-#[derive(Drop)]
+#[derive(Clone, Copy)]
 pub(crate) struct Tally {
     pub(crate) reader: Reader,
     pub(crate) page: Page,
@@ -35,7 +35,7 @@ pub(crate) fn fresh() -> Tally {
 }
 
 // The counts of the listing so far.
-#[derive(Drop)]
+#[derive(Clone, Copy)]
 struct Counts {
     lines: u64,
     weights: u64,

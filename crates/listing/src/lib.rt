@@ -1,4 +1,7 @@
 // The listing: the line of an entry as text in lent room, and the total line (01, "Judged examples").
+
+#![tactic(auto)]
+
 mod pieces;
 mod writing;
 

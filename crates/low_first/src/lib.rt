@@ -1,4 +1,7 @@
 // Numbers of more than one byte, low byte first, as serials, times and counts stand in messages and records; and words as signed numbers.
+
+#![tactic(auto)]
+
 ghost use Rattle.std.specs.Prelude.{◌≡◌, [], ◌∷◌, ◌+◌, ◌*◌, ◌<◌};
 ghost use Rattle.low_first.specs.LowFirst.{low_first};
 ghost use Rattle.low_first.specs.Signed.{signed_of, word_of};

@@ -15,7 +15,7 @@ use refusal::Refusal;
 use weight::{Family, FourBytes, Read, Reading, family_number, read_bytes};
 
 // A weight as it was said: gross or net, its four bytes, and the reading that they stand for. The log notes the bytes, the listing shows the reading.
-#[derive(Drop)]
+#[derive(Clone, Copy)]
 pub struct SaidWeight {
     pub load: Load,
     pub bytes: FourBytes,
@@ -23,7 +23,7 @@ pub struct SaidWeight {
 }
 
 // What a message says. A text, and the six bytes of an event, stand in the lent body from place `from` up to but not including place `to`.
-#[derive(Drop)]
+#[derive(Clone, Copy)]
 pub enum What {
     Nothing, // there are no data
     Serial(u32), // the terminal's serial number
@@ -39,14 +39,14 @@ pub enum What {
 }
 
 // Whether a message says a weight.
-#[derive(Drop)]
+#[derive(Clone, Copy)]
 pub enum WeightOrNot {
     Weight(SaidWeight),
     NoWeight,
 }
 
 // What code and data say, or the refusal they earn.
-#[derive(Drop)]
+#[derive(Clone, Copy)]
 pub enum Told {
     What(What),
     Refused(Refusal),

@@ -1,4 +1,7 @@
 // The messages of the paper's table, in both roles: read from a lent body, and written into lent room.
+
+#![tactic(auto)]
+
 mod reading;
 mod writing;
 

@@ -10,7 +10,7 @@ use weight::Family;
 
 // A message. Its data are the bytes of the lent body from place `from` up to but not including place `to`. Handed to the writer with
 // the same role, family, address and code, they make the same body.
-#[derive(Drop)]
+#[derive(Clone, Copy)]
 pub struct Message {
     pub address: Address,
     pub code: u8,
@@ -20,7 +20,7 @@ pub struct Message {
 }
 
 // A lent body read as a message, or the refusal it earns.
-#[derive(Drop)]
+#[derive(Clone, Copy)]
 pub enum Received {
     Message(Message),
     Refused(Refusal),

@@ -2,6 +2,9 @@
 // end it tells counts and a sum. The same work in C tells the same counts and the same sum.
 //
 // The argument names the work: check, byte, block (also without an argument), message, record.
+
+#![tactic(auto)]
+
 mod bodies;
 mod hearing;
 mod logs;
@@ -11,7 +14,7 @@ use check_byte::feed_all;
 use libc::{STDIN_FILENO, STDOUT_FILENO};
 use tally::{Counts, Tally, with_counts};
 
-#[derive(Drop)]
+#[derive(Clone, Copy)]
 enum Work {
     Check,
     Byte,

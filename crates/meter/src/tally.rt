@@ -5,14 +5,14 @@ use std::num::wrapping_add_u64;
 // The bytes of a block: whole bodies of 7 bytes, and whole records of 20.
 pub(crate) const BLOCK: usize = 56_000;
 
-#[derive(Drop)]
+#[derive(Clone, Copy)]
 pub(crate) struct Counts {
     pub(crate) good: u64, // frames, messages or records
     pub(crate) refused: u64,
     pub(crate) sum: u64, // of what was answered, so that no answer goes unused
 }
 
-#[derive(Drop)]
+#[derive(Clone, Copy)]
 pub(crate) struct Tally {
     pub(crate) reader: Reader,
     pub(crate) counts: Counts,

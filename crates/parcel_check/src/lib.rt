@@ -4,6 +4,9 @@
 // A wide number stands for the register that its bits make of an empty one. Under 11021h thirty-two zero bits make of a register what twenty-four, ten and
 // none make of it, folded together, and sixteen what twelve, five and none make of it. That is how what stands above 32 or 16 bits is folded in below.
 // Of what is folded in, some stands above again. `again` has it all at once.
+
+#![tactic(auto)]
+
 ghost use Rattle.std.specs.Prelude.{◌≡◌, length, drop, ◌<◌, ◌+◌, ◌*◌, ◌%◌};
 ghost use Rattle.register.specs.Register.{all_in};
 ghost use Rattle.parcel_check.specs.Check.{enter_bits, enter_byte, parcel_check};

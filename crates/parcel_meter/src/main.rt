@@ -1,6 +1,9 @@
 // bench/run measures with this program what reading the parcel scales' messages costs. It reads one in each piece of 14 bytes of standard input, which a
 // weight fills. At the end it tells counts and a sum of all that the messages say. The same work in C tells the same counts and the same sum. In a
 // program by itself the compiler has as many registers for it as there are.
+
+#![tactic(auto)]
+
 use libc::{STDIN_FILENO, STDOUT_FILENO};
 use low_first::word_of;
 use parcel_scale::{Parcel, ParcelRead, ParcelWeight, read};
@@ -11,7 +14,7 @@ const PIECE: usize = 14;
 
 const BLOCK: usize = 56_000;
 
-#[derive(Drop)]
+#[derive(Clone, Copy)]
 struct Told {
     good: u64,
     refused: u64,

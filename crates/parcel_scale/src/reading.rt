@@ -14,7 +14,7 @@ use parcel_check::check_of;
 use refusal::Refusal;
 
 // Lent bytes read as a message with how many bytes of them were used, or the refusal that they earn.
-#[derive(Drop)]
+#[derive(Clone, Copy)]
 pub enum ParcelRead {
     Parcel(Parcel, usize),
     Refused(Refusal),

@@ -4,6 +4,9 @@
 // A case on standard input is one byte for its function, two bytes of length and a text. A write has two bytes of length and the lent room behind
 // it. Numbers come last. The answer on standard output is a line: the function's number, and the words of the answer. tests/model/README.md has
 // the layouts.
+
+#![tactic(auto)]
+
 mod words;
 
 ghost use Rattle.std.specs.Prelude.{◌≤◌};

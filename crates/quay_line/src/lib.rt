@@ -1,4 +1,7 @@
 // The line across: a block fed to a reader whose place goes by value and whose 255 bytes are lent.
+
+#![tactic(auto)]
+
 mod listening;
 mod places;
 

@@ -9,7 +9,7 @@ use refusal::{Refusal, number};
 
 // The next place, the first event, and how many bytes of the block were taken.
 #[repr(C)]
-#[derive(Drop)]
+#[derive(Clone, Copy)]
 pub struct QuayWent {
     pub place: QuayPlace,
     pub event: QuayEvent,

@@ -8,7 +8,7 @@ use refusal::number;
 
 // Where a reader stands. All zeros are a fresh reader.
 #[repr(C)]
-#[derive(Drop)]
+#[derive(Clone, Copy)]
 pub struct QuayPlace {
     pub wire: u64, // bytes taken since the reader started
     pub kept: usize, // body bytes kept

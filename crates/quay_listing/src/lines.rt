@@ -11,7 +11,7 @@ use refusal::{Refusal, number};
 
 // The line's length, or 0 beside a refusal. And what was listed, for the counts of the total.
 #[repr(C)]
-#[derive(Drop)]
+#[derive(Clone, Copy)]
 pub struct QuayListed {
     pub length: usize,
     pub entry: u8, // 0 nothing, 1 a weight, 2 another message, 3 a refusal

@@ -1,4 +1,7 @@
 // Messages across: read from a lent body, and frames and messages written into lent room.
+
+#![tactic(auto)]
+
 mod addresses;
 mod messages;
 mod writing;

@@ -14,7 +14,7 @@ use weight::FourBytes;
 
 // What a message says. A number, a count or a weight that its kind does not have is all ones. No message can say that.
 #[repr(C)]
-#[derive(Drop)]
+#[derive(Clone, Copy)]
 pub struct QuayWhat {
     pub number: u64, // serial, NUM, status, the bits of inputs or outputs, EVENT, the converter's number, NER
     pub from: usize, // where in the body a text, or the six bytes of an event, begin
@@ -32,7 +32,7 @@ const NO_COUNT: u32 = 4_294_967_295;
 
 // A message, or the refusal its body earns.
 #[repr(C)]
-#[derive(Drop)]
+#[derive(Clone, Copy)]
 pub struct QuayMessage {
     pub what: QuayWhat,
     pub from: usize, // where in the body its data begin

@@ -1,4 +1,7 @@
 // Weights across: four bytes in; a reading, a value, a difference or kilograms out.
+
+#![tactic(auto)]
+
 mod weights;
 
 pub use weights::{

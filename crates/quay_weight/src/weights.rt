@@ -12,7 +12,7 @@ use weight::{
 // What a terminal shows. The marks are 0 or 1. If refused, the number, the marks and the family are all ones and the point is 0: number and
 // point together are far above any weight.
 #[repr(C)]
-#[derive(Drop)]
+#[derive(Clone, Copy)]
 pub struct QuayReading {
     pub number: u32, // 0 to 999,999; no weight where `overload` is 1: ask `quay_value`, which refuses by 24
     pub point: u8, // digits after the point
@@ -27,7 +27,7 @@ pub struct QuayReading {
 
 // A signed whole number of tenths of a milligram. If refused, also for an overload, it is the lowest number there is. No weight is so low.
 #[repr(C)]
-#[derive(Drop)]
+#[derive(Clone, Copy)]
 pub struct QuayValue {
     pub value: i64,
     pub refusal: u8,
@@ -35,7 +35,7 @@ pub struct QuayValue {
 
 // A weight in kilograms. If refused, also for an overload, it is not a number.
 #[repr(C)]
-#[derive(Drop)]
+#[derive(Clone, Copy)]
 pub struct QuayKilograms {
     pub kilograms: f64,
     pub refusal: u8,

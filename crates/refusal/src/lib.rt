@@ -1,10 +1,13 @@
 // The numbered refusals of the rules paper ("What the answers mean") and of the requests of 02, and the verdict that every judge
 // of the layers above gives.
+
+#![tactic(auto)]
+
 ghost use Rattle.std.specs.Prelude.{◌≡◌};
 ghost use Rattle.refusal.specs.Numbers.{number_of, named_of, line_status};
 
 // One case for each number of the list, named by its meaning: 1 to 11 of 01, from 20 on of 02.
-#[derive(Drop)]
+#[derive(Clone, Copy)]
 pub enum Refusal {
     BodyShort, // 1: body ended with under 3 bytes, or first byte 00 and under 6
     BodyLong, // 2: 256th body byte; body would pass 255
@@ -28,14 +31,14 @@ pub enum Refusal {
 }
 
 // What a judge says of what it was given.
-#[derive(Drop)]
+#[derive(Clone, Copy)]
 pub enum Verdict {
     Good,
     Refused(Refusal),
 }
 
 // The refusal that a number names.
-#[derive(Drop)]
+#[derive(Clone, Copy)]
 pub enum Named {
     Refusal(Refusal),
     Unknown, // no refusal has the number

@@ -1,5 +1,8 @@
 // Lent room: what a write answers, and bytes laid into a room one piece after the other. A room belongs to
 // the caller. Bytes that are not written stay as they stood. Also the front of bytes lent for reading.
+
+#![tactic(auto)]
+
 ghost use Rattle.std.specs.Prelude.{◌≡◌, [], ◌∷◌, take};
 ghost use Rattle.low_first.specs.LowFirst.{low_bytes};
 ghost use Rattle.room.specs.Laying.{Laid};
@@ -8,7 +11,7 @@ ghost use Rattle.room.specs.Writing.{Leaves, refused_write, written};
 use refusal::{Refusal, Verdict};
 
 // What a write answers: its own length, or length 0 beside the refusal.
-#[derive(Drop)]
+#[derive(Clone, Copy)]
 pub struct Written {
     pub verdict: Verdict,
     pub length: usize,
@@ -46,7 +49,8 @@ pub fn lay(source: &[u8], room: &mut [u8], at: usize) -> usize
     if room.len() - at < source.len() {
         return at;
     }
-    let count = bytes::copy(source, &mut room[at..]);
+    let count = source.len();
+    room[at..at + count].copy_from_slice(source);
     at + count
 }
 

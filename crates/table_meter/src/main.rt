@@ -1,5 +1,8 @@
 // bench/run measures with this program what filling the weekday and hour table costs. It fills one table from blocks of 2,800 records of standard input.
 // At the end it tells how many records went in, in how many blocks it stopped, and a sum over all cells. The same work in C tells the same.
+
+#![tactic(auto)]
+
 use hour_cell::Cell;
 use hour_table::{empty_table, fill, table_of};
 use libc::{STDIN_FILENO, STDOUT_FILENO};
@@ -8,7 +11,7 @@ use std::num::wrapping_add_u64;
 
 const BLOCK: usize = 56_000;
 
-#[derive(Drop)]
+#[derive(Clone, Copy)]
 struct Told {
     good: u64,
     stopped: u64,

@@ -2,6 +2,9 @@
 //
 // A case on standard input is one byte for its function, two bytes of length and a text; numbers come last. The answer on standard output is a line:
 // the function's number, and the words of the answer. tests/model/README.md has the layouts.
+
+#![tactic(auto)]
+
 mod given;
 mod words;
 

@@ -1,4 +1,7 @@
 // What the loadmaster asks of a reading: net mode, which platform, a key code, an event (02, request 4).
+
+#![tactic(auto)]
+
 ghost use Rattle.std.specs.Prelude.{◌≡◌};
 ghost use Rattle.terminal_mode.specs.Modes.{yes_or_no, scale, mode_by_family, mode_of};
 
@@ -6,7 +9,7 @@ use refusal::Refusal;
 use weight::{Family, Reading, in_range};
 
 // What a bit answers. A family that has no such bit says so, and that is no `No`.
-#[derive(Drop)]
+#[derive(Clone, Copy)]
 pub enum Answer {
     NoSuchBit,
     No,
@@ -14,14 +17,14 @@ pub enum Answer {
 }
 
 // The platform that a weight stood on.
-#[derive(Drop)]
+#[derive(Clone, Copy)]
 pub enum Platform {
     NoSuchBit,
     Scale(u8), // the current scale number, 0 or 1
 }
 
 // What bits 6 and 5 of a reading say, by its family.
-#[derive(Drop)]
+#[derive(Clone, Copy)]
 pub struct Mode {
     pub net: Answer, // was it in net mode
     pub platform: Platform, // which one
@@ -30,7 +33,7 @@ pub struct Mode {
 }
 
 // The mode of a reading, or why there is none.
-#[derive(Drop)]
+#[derive(Clone, Copy)]
 pub enum ModeTold {
     Mode(Mode),
     Refused(Refusal),

@@ -3,6 +3,9 @@
 // A case on standard input is one byte for its function, two bytes of length and a text, and then numbers. A writer's case has two bytes of
 // length and the lent room between text and numbers. The answer on standard output is a line: the function's number, and the words of the
 // answer. tests/model/README.md has the layouts. Each function here says its own.
+
+#![tactic(auto)]
+
 mod frames;
 mod given;
 mod lines;

@@ -1,6 +1,9 @@
 // bench/run measures with this program what walking costs. It takes standard input as one block (as several, if there are more than 56,000
 // bytes) and walks each from its start. At the end it tells counts and a sum: of one block those that crates/meter tells of the same bytes, heard by
 // `listen`.
+
+#![tactic(auto)]
+
 use capture_walker::{Next, step_from};
 use libc::{STDIN_FILENO, STDOUT_FILENO};
 use line::{BodyPlace, Event, WirePlace};
@@ -9,7 +12,7 @@ use std::num::wrapping_add_u64;
 
 const BLOCK: usize = 56_000;
 
-#[derive(Drop)]
+#[derive(Clone, Copy)]
 struct Told {
     frames: u64,
     refused: u64,

@@ -3,7 +3,7 @@ ghost use Rattle.std.specs.Prelude.{◌≡◌};
 ghost use Rattle.weight.specs.Families.{family_number, family_named};
 
 // A terminal's family is that of the document which describes it.
-#[derive(Drop)]
+#[derive(Clone, Copy)]
 pub enum Family {
     Plain, // not said: a record from before families were, whose bits 6 and 5 stay two plain bits
     Of000, // bit 6 key code entered, bit 5 net mode
@@ -12,7 +12,7 @@ pub enum Family {
 }
 
 // The family that a number names.
-#[derive(Drop)]
+#[derive(Clone, Copy)]
 pub enum FamilyNamed {
     Family(Family),
     Unknown, // no family has the number

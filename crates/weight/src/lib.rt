@@ -1,4 +1,7 @@
 // A weight reading and its four bytes, its value in tenths of a milligram, and gross less net (01, "Weight").
+
+#![tactic(auto)]
+
 ghost use Rattle.std.specs.Prelude.{◌≡◌, ◌&&◌, cond, ◌*◌, ◌^◌, ◌-◌, ◌≤◌, ◌<◌};
 ghost use Rattle.weight.specs.Digits.{decimal, all_decimal, two_digits, pair_of};
 ghost use Rattle.weight.specs.Families.{terminal, allowed};
@@ -15,7 +18,7 @@ mod families;
 pub use families::{Family, FamilyNamed, family_named, family_number};
 
 // What a terminal shows: the digits as one number, where the point stands in them, and the marks of the status byte; and whose it is.
-#[derive(Drop)]
+#[derive(Clone, Copy)]
 pub struct Reading {
     pub minus: bool, // the sign bit, also of a zero
     pub number: u32, // 0 to 999,999
@@ -30,7 +33,7 @@ pub struct Reading {
 // The four bytes of a weight, as the wire and the log have them and as they cross to another language: W0 W1 W2 CON. Beside them stands the number
 // of the family by which they are read, as byte 17 of a record has it.
 #[repr(C)]
-#[derive(Drop)]
+#[derive(Clone, Copy)]
 pub struct FourBytes {
     pub w0: u8,
     pub w1: u8,
@@ -40,21 +43,21 @@ pub struct FourBytes {
 }
 
 // What four bytes are read as.
-#[derive(Drop)]
+#[derive(Clone, Copy)]
 pub enum Read {
     Good(Reading),
     Refused(Refusal),
 }
 
 // What a reading is written as. A refusal has no bytes, so it cannot pass for a weight of nothing.
-#[derive(Drop)]
+#[derive(Clone, Copy)]
 pub enum Packed {
     Bytes(FourBytes),
     Refused(Refusal),
 }
 
 // A signed whole number of tenths of a milligram, or why there is none.
-#[derive(Drop)]
+#[derive(Clone, Copy)]
 pub enum Value {
     Tenths(i64),
     Refused(Refusal),
@@ -187,7 +190,7 @@ fn with_sign(minus: bool, size: u64) -> i64
 }
 
 // Reads four bytes of a terminal of a family.
-fn answered(family: Family, bytes: FourBytes) -> Read
+fn read_as(family: Family, bytes: FourBytes) -> Read
     ensures { result ≡ read_as family bytes }
 {
     let con = bytes.con;
@@ -216,7 +219,7 @@ pub fn read_bytes(bytes: FourBytes) -> Read
     ensures { result ≡ read_of bytes }
 {
     match family_named(bytes.family) {
-        FamilyNamed::Family(family) => answered(family, bytes),
+        FamilyNamed::Family(family) => read_as(family, bytes),
         FamilyNamed::Unknown => Read::Refused(Refusal::FieldOutside),
     }
 }
