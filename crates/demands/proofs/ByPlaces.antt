@@ -13,7 +13,7 @@ use lib.Seq.{slice, take_at, drop-nil, drop-append-le}
 use lib.Dec.{ltb}
 use Rattle.frame.specs.Stuffing.{stuffed}
 use Rattle.line.specs.Listener.{Heard}
-use Rattle.demands.specs.Wire.{Sent, Shared, AllShared, on_wire, wire_of, any_fF, heard_of, frames_of}
+use Rattle.demands.specs.Wire.{Sent, Shared, AllShared, on_wire, wire_of, any_ff, heard_of, frames_of}
 use Rattle.demands.proofs.AllHeard.{size, told, on_wire_ahead}
 
 -- the frames whose first address byte lies behind the place of joining: `heard_of` by places alone
@@ -39,13 +39,13 @@ run_closes front zero some = absurd (omega arith)
 run_closes front (suc count) some = rw append_assoc at (still_closed (ff front) count)
 
 -- of bytes that end in an FF one went by, exactly if one joined before their end
-ends_in_ff : (bytes : List ℕ) → any_fF (bytes ++ (0xFF ∷ [])) ≡ true
-unfolding any_fF
+ends_in_ff : (bytes : List ℕ) → any_ff (bytes ++ (0xFF ∷ [])) ≡ true
+unfolding any_ff
 ends_in_ff [] = refl
 ends_in_ff (byte ∷ bytes) = rw (ends_in_ff bytes, or-true)
 
-went_by : {front : List ℕ} → Closed front → (joined : ℕ) → any_fF (drop joined front) ≡ ltb joined (length front)
-unfolding any_fF
+went_by : {front : List ℕ} → Closed front → (joined : ℕ) → any_ff (drop joined front) ≡ ltb joined (length front)
+unfolding any_ff
 went_by none joined = rw (drop-nil, le-ltb joined 0 (omega arith))
 went_by (ff front) joined = elim (dec_le (length (front ++ (0xFF ∷ []))) joined) [
   | yes past ↦ rw (drop_of_length-le (front ++ (0xFF ∷ [])) past, le-ltb joined (length (front ++ (0xFF ∷ []))) past)
@@ -56,7 +56,7 @@ went_by (ff front) joined = elim (dec_le (length (front ++ (0xFF ∷ []))) joine
 ]
 
 first_of_frame : {front : List ℕ} → Closed front → (rest bytes : List ℕ) (joined first : ℕ) → length front ≡ first → bytes ≡ front ++ rest
-    → any_fF (slice joined first bytes) ≡ ltb joined first
+    → any_ff (slice joined first bytes) ≡ ltb joined first
 first_of_frame {front} closed rest bytes joined first here e = rw (e, take_at front rest first here, went_by closed joined, here)
 
 frame_closes : (sent : Sent) → Shared sent → (before : List ℕ) → Closed (before ++ on_wire sent)

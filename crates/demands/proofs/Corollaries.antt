@@ -9,13 +9,13 @@ use native.Mathlib.Nat.{mod-eq_of_lt}
 use lib.ListN.{length}
 use lib.Seq.{slice}
 use lib.Dec.{lit≤}
-use Rattle.frame.specs.Stuffing.{stuffed, count_fF, framed, needed}
+use Rattle.frame.specs.Stuffing.{stuffed, count_ff, framed, needed}
 use Rattle.frame.proofs.Stuffing.{stuffed_length, count_most}
 use Rattle.body.specs.Addresses.{address_in}
 use Rattle.body.specs.Body.{judged, code_in, data_in}
 use Rattle.body.proofs.Rebuilding.{good_address_lem, made_good, rebuilt, lent_at_most, lent_good}
 use Rattle.line.specs.Listener.{Heard, nothing, frame, refused, delimited, fresh, events}
-use Rattle.demands.specs.Wire.{Sent, Shared, AllShared, on_wire, wire_of, any_fF, heard_of, any_refused, frames_of, NoRefusal, GoodBodies, FromStart, OneList, OfFrameRule, ReadsBack}
+use Rattle.demands.specs.Wire.{Sent, Shared, AllShared, on_wire, wire_of, any_ff, heard_of, any_refused, frames_of, NoRefusal, GoodBodies, FromStart, OneList, OfFrameRule, ReadsBack}
 use Rattle.demands.proofs.Bytes.{clock, at, seeking_run, delimited_run}
 use Rattle.demands.proofs.AllHeard.{on_wire_ahead, quiet_end, to_its_end}
 use Rattle.demands.proofs.Demand3.{shared_demand3}
@@ -36,7 +36,7 @@ unfolding heard_of any_refused
 frames_only bytes joined start [] = refl
 frames_only bytes joined start (sent ∷ list) =
     let end = start + sent.ahead + length (stuffed sent.body) + 2 in
-    frame_or_later (any_fF (slice joined (start + sent.ahead) bytes)) (clock (end - joined)) (length sent.body) sent.body
+    frame_or_later (any_ff (slice joined (start + sent.ahead) bytes)) (clock (end - joined)) (length sent.body) sent.body
     (heard_of bytes joined (start + length (on_wire sent)) list) (frames_only bytes joined (start + length (on_wire sent)) list)
 
 pub no_refusal : NoRefusal
@@ -93,9 +93,9 @@ reads_back body good =
     let written : Sent = record { ahead = 1; body = body; behind = 2 } in
     let most : length body ≤ 255 = lent_at_most body good in
     let shared : Shared written = record { good = lent_good body good; most = most; behind = lit≤ tt } in
-    let twice : count_fF body ≤ length body = count_most body in
-    let places : 0 + 1 + length (stuffed body) + 2 ≡ length body + 3 + count_fF body = omega (arith, stuffed_length body) in
-    let small : length body + 3 + count_fF body < 2 ^ 64 = omega arith in
+    let twice : count_ff body ≤ length body = count_most body in
+    let places : 0 + 1 + length (stuffed body) + 2 ≡ length body + 3 + count_ff body = omega (arith, stuffed_length body) in
+    let small : length body + 3 + count_ff body < 2 ^ 64 = omega arith in
     ap (events fresh) (of_frame_rule body ∙ sym (append-nil (on_wire written)))
     ∙ from_start (written ∷ []) (shared, tt) (lit≤ tt)
     ∙ ap (λ (wire : ℕ). frame wire (length body) body ∷ []) (ap clock places ∙ mod-eq_of_lt small)

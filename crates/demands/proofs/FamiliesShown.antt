@@ -9,7 +9,7 @@ use Rattle.check_byte.specs.Register.{shift_in, feed_bits, feed_byte, feed_all, 
 use Rattle.low_first.specs.LowFirst.{low_first, low_bytes}
 use Rattle.body.specs.Addresses.{legal, address_bytes, address_in, address_length}
 use Rattle.body.specs.Body.{unchecked, body_of, short, judged, judged_lent, code_in, data_in}
-use Rattle.frame.specs.Stuffing.{count_fF, needed}
+use Rattle.frame.specs.Stuffing.{count_ff, needed}
 use Rattle.line.specs.Listener.{tick, keep, ended, hear_in, hear, heard_then, events}
 use Rattle.weight.specs.declared.families.Family.{Family}
 use Rattle.weight.specs.Families.{named_in, family_named}
@@ -38,7 +38,7 @@ families_shown =
     record { numbers = refl; none_set = refl; fifth_set = refl; sixth_set = refl; both_set = refl; fifth_lists = refl; none_lists = refl; fifth_heard = refl; listed = refl }
 
 pub sixth_shown : SixthShown
-unfolding records_from record_of weighed_record met_record good good_weighing good_address address_of written_message judged_message_write body_of unchecked address_bytes low_bytes check_of needed count_fF listing entry_heard decimal decimal_in events heard_then hear hear_in keep ended tick read_message read_if message_of judged_message judged_code judged_data row_of line_of line_in four_in read_of read_as family_named named_in judged_lent judged short received feed_all feed_byte feed_bits shift_in legal address_in low_first address_length code_in data_in
+unfolding records_from record_of weighed_record met_record good good_weighing good_address address_of written_message judged_message_write body_of unchecked address_bytes low_bytes check_of needed count_ff listing entry_heard decimal decimal_in events heard_then hear hear_in keep ended tick read_message read_if message_of judged_message judged_code judged_data row_of line_of line_in four_in read_of read_as family_named named_in judged_lent judged short received feed_all feed_byte feed_bits shift_in legal address_in low_first address_length code_in data_in
 sixth_shown = record { noted = refl; written = refl; listed = refl }
 
 pub byte_17_shown : Byte17Shown

@@ -7,7 +7,7 @@ use Rattle.check_byte.specs.Register.{shift_in, feed_bits, feed_byte, feed_all, 
 use Rattle.low_first.specs.LowFirst.{low_first, low_bytes}
 use Rattle.body.specs.Addresses.{legal, address_bytes, address_in, address_length}
 use Rattle.body.specs.Body.{unchecked, body_of, short, judged, judged_lent, code_in, data_in}
-use Rattle.frame.specs.Stuffing.{stuffed_byte, stuffed, framed, count_fF, needed}
+use Rattle.frame.specs.Stuffing.{stuffed_byte, stuffed, framed, count_ff, needed}
 use Rattle.frame.specs.Writing.{judged_fields, judged_write, written_frame}
 use Rattle.line.specs.Listener.{tick, keep, ended, hear_in, hear, heard_then, events}
 use Rattle.line.specs.Readers.{listening, taken}
@@ -27,7 +27,7 @@ use Rattle.demands.specs.OlderBridges.{RangeOfAddresses, OlderBridges}
 use Rattle.demands.specs.Weighings.{records_from}
 
 pub five_earned : FiveEarned
-unfolding shift_in feed_bits feed_byte feed_all received legal address_in short judged judged_lent stuffed_byte stuffed framed tick keep ended hear_in hear heard_then events listening taken heard_by address_bytes low_bytes unchecked check_of body_of count_fF needed judged_fields judged_write written_frame judged_message read_if read_message
+unfolding shift_in feed_bits feed_byte feed_all received legal address_in short judged judged_lent stuffed_byte stuffed framed tick keep ended hear_in hear heard_then events listening taken heard_by address_bytes low_bytes unchecked check_of body_of count_ff needed judged_fields judged_write written_frame judged_message read_if read_message
 five_earned = record { number = refl; handed_in = refl; handed_in_ff = refl; lent = refl; message = λ _. refl; writing = refl; accepted = refl; no_event = refl }
 
 range : RangeOfAddresses
@@ -35,7 +35,7 @@ unfolding legal
 range = record { inside = refl; outside = refl; serials = refl }
 
 pub older_bridges : OlderBridges
-unfolding flatten shift_in feed_bits feed_byte feed_all received legal address_in address_length short judged judged_lent code_in data_in stuffed_byte stuffed framed on_wire wire_of tick keep ended hear_in hear heard_then events listening taken heard_by in_range read_of read_as family_named named_in value_of four_in line_in line_of row_of low_first judged_data judged_message judged_code message_of read_if read_message address_bytes unchecked check_of body_of count_fF needed judged_fields judged_write written_frame records_from record_of met_record weighed_record good good_weighing good_address address_of entry_heard
+unfolding flatten shift_in feed_bits feed_byte feed_all received legal address_in address_length short judged judged_lent code_in data_in stuffed_byte stuffed framed on_wire wire_of tick keep ended hear_in hear heard_then events listening taken heard_by in_range read_of read_as family_named named_in value_of four_in line_in line_of row_of low_first judged_data judged_message judged_code message_of read_if read_message address_bytes unchecked check_of body_of count_ff needed judged_fields judged_write written_frame records_from record_of met_record weighed_record good good_weighing good_address address_of entry_heard
 older_bridges = record {
   range = range;
   frames = (

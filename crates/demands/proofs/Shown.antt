@@ -10,7 +10,7 @@ use Rattle.body.specs.Body.{short, judged}
 use Rattle.frame.specs.Stuffing.{stuffed_byte, stuffed}
 use Rattle.line.specs.Listener.{tick, keep, ended, hear_in, hear, heard_then, events, after}
 use Rattle.line.specs.Readers.{listening, taken}
-use Rattle.demands.specs.Wire.{on_wire, wire_of, any_fF, heard_of, any_refused, frames_of, over_blocks}
+use Rattle.demands.specs.Wire.{on_wire, wire_of, any_ff, heard_of, any_refused, frames_of, over_blocks}
 use Rattle.demands.specs.Reading.{after_bytes, heard_by}
 use Rattle.demands.specs.Shown.{Frames, HeardFrom, Tests, Told, Sharing, Longest, Resting, Shown}
 
@@ -29,11 +29,11 @@ frames = record {
 }
 
 heard_from : HeardFrom
-unfolding stuffed_byte stuffed on_wire any_fF heard_of frames_of
+unfolding stuffed_byte stuffed on_wire any_ff heard_of frames_of
 heard_from = record { start = refl; first_byte = refl; last_ff = refl; second_byte = refl; all = refl }
 
 tests : Tests
-unfolding any_fF any_refused
+unfolding any_ff any_refused
 tests = record { ff = refl; no_ff = refl; refusal = refl; no_refusal = refl }
 
 told : Told
@@ -41,7 +41,7 @@ unfolding shift_in feed_bits feed_byte feed_all received legal address_in short 
 told = record { blocks = refl; by_reader = refl; reader = refl }
 
 shared : Sharing
-unfolding shift_in feed_bits feed_byte feed_all received low_first legal address_in short judged stuffed_byte stuffed on_wire wire_of any_fF heard_of tick keep ended hear_in hear heard_then events
+unfolding shift_in feed_bits feed_byte feed_all received low_first legal address_in short judged stuffed_byte stuffed on_wire wire_of any_ff heard_of tick keep ended hear_in hear heard_then events
 shared = record {
   all = (record { good = refl; most = lit≤ tt; behind = lit≤ tt }, (record { good = refl; most = lit≤ tt; behind = lit≤ tt }, tt));
   not_proper = λ p. omega (arith, p.1.0.ahead);

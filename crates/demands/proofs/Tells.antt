@@ -41,7 +41,7 @@ use Rattle.capture_walker.specs.Walking.{start_at, StepTaken, said_end, step_fro
 use Rattle.capture_walker.specs.Walkers.{walker_at, WalkerSteps}
 use Rattle.demands.specs.CaptureWalks.{Lends, Walk, EndsForEver, end_from, WalkTells, LeavesLine, CountsWire, MovedOn}
 use Rattle.demands.specs.Counts.{Within, Carries}
-use Rattle.demands.specs.HighAddresses.{NoFive, WrittenWithoutFive, from_fE}
+use Rattle.demands.specs.HighAddresses.{NoFive, WrittenWithoutFive, from_fe}
 use Rattle.demands.specs.Kept.{WeightReply}
 use Rattle.laws.specs.Exactly.{ExactlyWhere}
 use Rattle.demands.specs.Messages.{FirstToFail}
@@ -205,7 +205,7 @@ five_listed : WrittenWithoutFive (refused AddressIllegal 5 3 ∷ []) → ⊥
 unfolding entry_heard
 five_listed h = h.listed Of002 AddressIllegal (Memᴰ.head refl) refl
 
-five_read : WrittenWithoutFive (frame 6 3 from_fE ∷ []) → ⊥
+five_read : WrittenWithoutFive (frame 6 3 from_fe ∷ []) → ⊥
 unfolding entry_heard shift_in feed_bits feed_byte feed_all received address_in short judged judged_lent judged_message read_if read_message legal
 five_read h = h.listed Of002 AddressIllegal (Memᴰ.head refl) refl
 

@@ -68,11 +68,11 @@ NeverFive = (wire : List ℕ) → T (are_bytes wire) → (joined : ℕ) (blocks 
 -- ---- "5 now means a short address outside 01 to FD or a serial too large": it is not dead
 
 -- bodies from FE and from FF; their checks are right
-abbrev pub from_fE : List ℕ
-from_fE = 0xFE ∷ 0xC3 ∷ 0x8B ∷ []
+abbrev pub from_fe : List ℕ
+from_fe = 0xFE ∷ 0xC3 ∷ 0x8B ∷ []
 
-abbrev pub from_fF : List ℕ
-from_fF = 0xFF ∷ 0xC3 ∷ 0x88 ∷ []
+abbrev pub from_ff : List ℕ
+from_ff = 0xFF ∷ 0xC3 ∷ 0x88 ∷ []
 
 -- a state handed in: Inside, with nothing kept
 abbrev pub inside_empty : Reader
@@ -86,10 +86,10 @@ verdict_from address = (written_frame address 0xC3 [] (replicate 20 0)).answer.v
 -- a fresh listener no event.
 pub record FiveEarned : Type 0 where
   pub number : number_of AddressIllegal ≡ 5
-  pub handed_in : heard_by inside_empty (stuffed from_fE ++ (0xFF ∷ 0xFF ∷ [])) ≡ refused AddressIllegal 5 3 ∷ []
-  pub handed_in_ff : heard_by inside_empty (stuffed from_fF ++ (0xFF ∷ 0xFF ∷ [])) ≡ refused AddressIllegal 6 3 ∷ []
-  pub lent : map judged_lent (from_fE ∷ from_fF ∷ []) ≡ Refused AddressIllegal ∷ Refused AddressIllegal ∷ []
-  pub message : (family : Family) → map (read_message Reply family) (from_fE ∷ from_fF ∷ []) ≡ received_as.Refused AddressIllegal ∷ received_as.Refused AddressIllegal ∷ []
+  pub handed_in : heard_by inside_empty (stuffed from_fe ++ (0xFF ∷ 0xFF ∷ [])) ≡ refused AddressIllegal 5 3 ∷ []
+  pub handed_in_ff : heard_by inside_empty (stuffed from_ff ++ (0xFF ∷ 0xFF ∷ [])) ≡ refused AddressIllegal 6 3 ∷ []
+  pub lent : map judged_lent (from_fe ∷ from_ff ∷ []) ≡ Refused AddressIllegal ∷ Refused AddressIllegal ∷ []
+  pub message : (family : Family) → map (read_message Reply family) (from_fe ∷ from_ff ∷ []) ≡ received_as.Refused AddressIllegal ∷ received_as.Refused AddressIllegal ∷ []
   pub writing : map verdict_from (Short 0 ∷ Short 0xFE ∷ Short 0xFF ∷ Serial 16_777_216 ∷ []) ≡ replicate 4 (Refused AddressIllegal)
   pub accepted : map verdict_from (Short 0x01 ∷ Short 0xFD ∷ Serial 16_777_215 ∷ []) ≡ replicate 3 Good
-  pub no_event : map (events fresh) (framed from_fE ∷ framed from_fF ∷ []) ≡ [] ∷ [] ∷ []
+  pub no_event : map (events fresh) (framed from_fe ∷ framed from_ff ∷ []) ≡ [] ∷ [] ∷ []

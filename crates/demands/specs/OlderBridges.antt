@@ -36,12 +36,12 @@ from_a4 = 0xA4 ∷ 0xC3 ∷ 0x51 ∷ 0x02 ∷ 0x00 ∷ 0x01 ∷ 0x92 ∷ []
 abbrev pub from_f0 : List ℕ
 from_f0 = 0xF0 ∷ 0xC2 ∷ 0x05 ∷ 0x00 ∷ 0x00 ∷ 0x91 ∷ 0xC9 ∷ []
 
-abbrev pub from_fD : List ℕ
-from_fD = 0xFD ∷ 0xA1 ∷ 0xFF ∷ 0x00 ∷ 0x00 ∷ 0x02 ∷ []
+abbrev pub from_fd : List ℕ
+from_fd = 0xFD ∷ 0xA1 ∷ 0xFF ∷ 0x00 ∷ 0x00 ∷ 0x02 ∷ []
 
 abbrev pub older : List Sent
 older =
-    record { ahead = 1; body = from_a4; behind = 2 } ∷ record { ahead = 1; body = from_f0; behind = 2 } ∷ record { ahead = 1; body = from_fD; behind = 2 } ∷ []
+    record { ahead = 1; body = from_a4; behind = 2 } ∷ record { ahead = 1; body = from_f0; behind = 2 } ∷ record { ahead = 1; body = from_fd; behind = 2 } ∷ []
 
 -- one wire, what a fresh listener hears of it, and what it says, as a line of 000
 abbrev pub older_example : Example
@@ -50,7 +50,7 @@ older_example = record {
       0xFF ∷ 0xA4 ∷ 0xC3 ∷ 0x51 ∷ 0x02 ∷ 0x00 ∷ 0x01 ∷ 0x92 ∷ 0xFF ∷ 0xFF
       ∷ 0xFF ∷ 0xF0 ∷ 0xC2 ∷ 0x05 ∷ 0x00 ∷ 0x00 ∷ 0x91 ∷ 0xC9 ∷ 0xFF ∷ 0xFF
       ∷ 0xFF ∷ 0xFD ∷ 0xA1 ∷ 0xFF ∷ 0xFE ∷ 0x00 ∷ 0x00 ∷ 0x02 ∷ 0xFF ∷ 0xFF ∷ [];
-  heard = frame 10 7 from_a4 ∷ frame 20 7 from_f0 ∷ frame 30 6 from_fD ∷ [];
+  heard = frame 10 7 from_a4 ∷ frame 20 7 from_f0 ∷ frame 30 6 from_fd ∷ [];
   role = Reply;
   family = Of000;
   said =
@@ -74,7 +74,7 @@ pub record OlderBridges : Type 0 where
   pub laid : wire_of older ≡ older_example.bytes
   pub read : computed older_example ≡ older_example
   pub by_reader : heard_by fresh_reader older_example.bytes ≡ older_example.heard
-  pub joined_late : events fresh (drop 1 older_example.bytes) ≡ frame 19 7 from_f0 ∷ frame 29 6 from_fD ∷ []
+  pub joined_late : events fresh (drop 1 older_example.bytes) ≡ frame 19 7 from_f0 ∷ frame 29 6 from_fd ∷ []
   pub written : flatten (map framed (bodies_of older_example.heard)) ≡ older_example.bytes
   pub by_writer : flatten (map written_again (bodies_of older_example.heard)) ≡ older_example.bytes
   pub noted :

@@ -6,7 +6,7 @@ use Rattle.body.specs.Addresses.{address_in}
 use Rattle.line.specs.declared.places.Phase.TheVariants.{Inside}
 use Rattle.line.specs.Listener.{seeking, delimited, inside, held, nothing, frame, refused, fresh, events, after}
 use Rattle.line.specs.Readers.{fresh_reader}
-use Rattle.demands.specs.Wire.{Sent, Proper, AllProper, AllShared, FirstAhead, wire_of, any_fF, heard_of, any_refused, frames_of, over_blocks}
+use Rattle.demands.specs.Wire.{Sent, Proper, AllProper, AllShared, FirstAhead, wire_of, any_ff, heard_of, any_refused, frames_of, over_blocks}
 use Rattle.demands.specs.Stops.{AtRest, unended}
 use Rattle.demands.specs.Examples.{zeros, one_zero_more}
 use Rattle.demands.specs.Reading.{after_bytes, heard_by}
@@ -15,12 +15,12 @@ use Rattle.demands.specs.Reading.{after_bytes, heard_by}
 abbrev pub plain : List ℕ
 plain = 0x01 ∷ 0xC3 ∷ 0xE3 ∷ []
 
-abbrev pub with_fF : List ℕ
-with_fF = 0x01 ∷ 0xA1 ∷ 0xFF ∷ 0x00 ∷ 0x00 ∷ 0x39 ∷ []
+abbrev pub with_ff : List ℕ
+with_ff = 0x01 ∷ 0xA1 ∷ 0xFF ∷ 0x00 ∷ 0x00 ∷ 0x39 ∷ []
 
 -- with one FF ahead and two behind, and with two ahead and three behind
 abbrev pub pair : List Sent
-pair = record { ahead = 1; body = plain; behind = 2 } ∷ record { ahead = 2; body = with_fF; behind = 3 } ∷ []
+pair = record { ahead = 1; body = plain; behind = 2 } ∷ record { ahead = 2; body = with_ff; behind = 3 } ∷ []
 
 abbrev pub first_bytes : List ℕ
 first_bytes = 0xFF ∷ 0x01 ∷ 0xC3 ∷ 0xE3 ∷ 0xFF ∷ 0xFF ∷ []
@@ -38,26 +38,26 @@ pub record Frames : Type 0 where
   pub no_first : FirstAhead []
   pub none_ahead : Proper (record { ahead = 0; body = plain; behind = 2 }) → ⊥
   pub laid : wire_of pair ≡ bytes
-  pub cut_off : unended 2 with_fF ≡ 0xFF ∷ 0xFF ∷ 0x01 ∷ 0xA1 ∷ 0xFF ∷ 0xFE ∷ 0x00 ∷ 0x00 ∷ 0x39 ∷ 0xFF ∷ []
+  pub cut_off : unended 2 with_ff ≡ 0xFF ∷ 0xFF ∷ 0x01 ∷ 0xA1 ∷ 0xFF ∷ 0xFE ∷ 0x00 ∷ 0x00 ∷ 0x39 ∷ 0xFF ∷ []
 
 -- a listener who joins at the start hears both frames; from the first frame's address byte on he hears only the second, from the second's on none
 pub record HeardFrom : Type 0 where
-  pub start : heard_of bytes 0 0 pair ≡ frame 6 3 plain ∷ frame 17 6 with_fF ∷ []
-  pub first_byte : heard_of bytes 1 0 pair ≡ frame 16 6 with_fF ∷ []
-  pub last_ff : heard_of bytes 7 0 pair ≡ frame 10 6 with_fF ∷ []
+  pub start : heard_of bytes 0 0 pair ≡ frame 6 3 plain ∷ frame 17 6 with_ff ∷ []
+  pub first_byte : heard_of bytes 1 0 pair ≡ frame 16 6 with_ff ∷ []
+  pub last_ff : heard_of bytes 7 0 pair ≡ frame 10 6 with_ff ∷ []
   pub second_byte : heard_of bytes 8 0 pair ≡ []
-  pub all : frames_of 4 pair ≡ frame 10 3 plain ∷ frame 21 6 with_fF ∷ []
+  pub all : frames_of 4 pair ≡ frame 10 3 plain ∷ frame 21 6 with_ff ∷ []
 
 pub record Tests : Type 0 where
-  pub ff : any_fF (0x01 ∷ 0xFE ∷ 0xFF ∷ 0x02 ∷ []) ≡ true
-  pub no_ff : any_fF (0x01 ∷ 0xFE ∷ 0x02 ∷ []) ≡ false
+  pub ff : any_ff (0x01 ∷ 0xFE ∷ 0xFF ∷ 0x02 ∷ []) ≡ true
+  pub no_ff : any_ff (0x01 ∷ 0xFE ∷ 0x02 ∷ []) ≡ false
   pub refusal : any_refused (nothing ∷ frame 6 3 plain ∷ refused CheckWrong 12 3 ∷ []) ≡ true
   pub no_refusal : any_refused (nothing ∷ frame 6 3 plain ∷ nothing ∷ []) ≡ false
 
 -- both frames, cut into three blocks inside the first and inside the second, by the listener; and by the reader, byte by byte
 pub record Told : Type 0 where
-  pub blocks : over_blocks events after fresh ((0xFF ∷ 0x01 ∷ []) ∷ (0xC3 ∷ 0xE3 ∷ 0xFF ∷ []) ∷ (0xFF ∷ []) ∷ second_bytes ∷ []) ≡ frame 6 3 plain ∷ frame 17 6 with_fF ∷ []
-  pub by_reader : heard_by fresh_reader bytes ≡ frame 6 3 plain ∷ frame 17 6 with_fF ∷ []
+  pub blocks : over_blocks events after fresh ((0xFF ∷ 0x01 ∷ []) ∷ (0xC3 ∷ 0xE3 ∷ 0xFF ∷ []) ∷ (0xFF ∷ []) ∷ second_bytes ∷ []) ≡ frame 6 3 plain ∷ frame 17 6 with_ff ∷ []
+  pub by_reader : heard_by fresh_reader bytes ≡ frame 6 3 plain ∷ frame 17 6 with_ff ∷ []
   pub reader : (after_bytes fresh_reader (0xFF ∷ 0x01 ∷ [])).place ≡ record { phase = Inside; wire = record { 0 = 2 }; kept = record { 0 = 1 } }
 
 -- two frames that share what stands between them: the second has no FF of its own. It has an extended address, whose serial has an FF in it

@@ -10,7 +10,7 @@ use Rattle.line.specs.Listener.{State, seeking, delimited, inside, frame, refuse
 use Rattle.capture_walker.specs.Walking.{start_at, said_end, step_from}
 use Rattle.capture_walker.specs.Walkers.{walker_at}
 use Rattle.demands.specs.CaptureWalks.{met, Lends, Walk, end_from, LeavesLine, CountsWire}
-use Rattle.demands.specs.Shown.{plain, with_fF}
+use Rattle.demands.specs.Shown.{plain, with_ff}
 use Rattle.demands.specs.WalkersWalk.{WalkersWalk}
 
 -- E1, then E7, then a body that is cut off
@@ -74,7 +74,7 @@ pub record Answers : Type 0 where
 pub record FromInside : Type 0 where
   pub behind_first_ff : step_from morning 1 sevens ≡ met (whole 6 3) 6 (plain ++ drop 3 sevens)
   pub in_frame : step_from morning 2 sevens ≡ met (refusal HeldBroken 10 1) 10 (0x01 ∷ drop 1 sevens)
-  pub from_start : step_from evening 0 sevens ≡ met (whole 10 6) 10 (with_fF ++ drop 6 sevens)
+  pub from_start : step_from evening 0 sevens ≡ met (whole 10 6) 10 (with_ff ++ drop 6 sevens)
   pub behind_stuffed : step_from evening 4 sevens ≡ met (refusal CheckWrong 15 3) 15 (0x01 ∷ 0xC3 ∷ 0xE2 ∷ drop 3 sevens)
   pub behind_inserted : step_from evening 5 sevens ≡ met (refusal CheckWrong 15 3) 15 (0x01 ∷ 0xC3 ∷ 0xE2 ∷ drop 3 sevens)
 

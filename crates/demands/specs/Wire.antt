@@ -53,9 +53,9 @@ wire_of [] = []
 wire_of (sent ∷ list) = on_wire sent ++ wire_of list
 
 -- at least one FF among some bytes
-unfoldable pub any_fF : List ℕ → Bool
-any_fF [] = false
-any_fF (byte ∷ bytes) = eqb byte 0xFF || any_fF bytes
+unfoldable pub any_ff : List ℕ → Bool
+any_ff [] = false
+any_ff (byte ∷ bytes) = eqb byte 0xFF || any_ff bytes
 
 -- of the frames from place `at` of some bytes on: those before whose first address byte a listener who joined at `joined` heard an FF.
 -- A frame's wire count runs from the place of joining up to and including the second FF behind its body.
@@ -65,7 +65,7 @@ heard_of bytes joined at (sent ∷ list) =
     let first = at + sent.ahead in
     let end = first + length (stuffed sent.body) + 2 in
     let later = heard_of bytes joined (at + length (on_wire sent)) list in
-    cond (any_fF (slice joined first bytes)) (frame ((end - joined) % 2 ^ 64) (length sent.body) sent.body ∷ later) later
+    cond (any_ff (slice joined first bytes)) (frame ((end - joined) % 2 ^ 64) (length sent.body) sent.body ∷ later) later
 
 -- ---- demand 3
 

@@ -22,7 +22,7 @@ use Rattle.body.specs.declared.addresses.Address.{Address}
 use Rattle.frame.specs.declared.writing.Needed.TheVariants as needed_as
 use Rattle.body.specs.Addresses.{legal}
 use Rattle.body.specs.Body.{body_of}
-use Rattle.frame.specs.Stuffing.{count_fF, needed}
+use Rattle.frame.specs.Stuffing.{count_ff, needed}
 use Rattle.frame.specs.Writing.{judged_fields, needed_for, judged_write}
 use Rattle.frame.specs.Preparing.{Prepared}
 use Rattle.frame.proofs.Pieces.{read_back}
@@ -50,7 +50,7 @@ module _ (address : Address) (code : ℕ) (data' : List ℕ) where
       record { answer = rw (is_legal, test); body = λ good. refused_not_good (rw (is_legal, test) at good) }
 
   pub ready_prepared : {empty left : List ℕ} {end count : ℕ} → legal address ≡ true → length (body_of address code data') ≤ 255 → 255 ≤ length empty
-      → Laid 0 (body_of address code data') empty end left → count ≡ count_fF (take end left)
+      → Laid 0 (body_of address code data') empty end left → count ≡ count_ff (take end left)
       → Prepared address code data' empty (needed_as.Bytes (end + 3 + count)) left
   unfolding needed_for judged_fields needed
   ready_prepared {empty} {left} {end} {count} is_legal short enough laid counted =

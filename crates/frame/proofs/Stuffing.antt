@@ -8,7 +8,7 @@ use native.Mathlib.Omega.{arith}
 use borrow.Author.Tests.{eqb-true}
 use lib.Dec.{eqb}
 use lib.ListN.{length, length-append}
-use Rattle.frame.specs.Stuffing.{stuffed_byte, stuffed, framed, count_fF, needed, unstuffed}
+use Rattle.frame.specs.Stuffing.{stuffed_byte, stuffed, framed, count_ff, needed, unstuffed}
 
 -- a body in two parts stuffs part by part
 pub stuffed_append : (first second : List ℕ) → stuffed (first ++ second) ≡ stuffed first ++ stuffed second
@@ -30,15 +30,15 @@ byte_length byte = by_test (eqb byte 0xFF)
     by_test true = refl
     by_test false = refl
 
-pub stuffed_length : (body : List ℕ) → length (stuffed body) ≡ length body + count_fF body
-unfolding stuffed count_fF
+pub stuffed_length : (body : List ℕ) → length (stuffed body) ≡ length body + count_ff body
+unfolding stuffed count_ff
 stuffed_length [] = refl
 stuffed_length (byte ∷ body) =
     length-append (stuffed_byte byte) (stuffed body)
     ∙ omega (arith, byte_length byte, stuffed_length body)
 
-pub count_most : (body : List ℕ) → count_fF body ≤ length body
-unfolding count_fF
+pub count_most : (body : List ℕ) → count_ff body ≤ length body
+unfolding count_ff
 count_most [] = omega arith
 count_most (byte ∷ body) = omega (arith, byte_most (eqb byte 0xFF), count_most body)
   where

@@ -16,13 +16,13 @@ unfoldable pub framed : List ℕ → List ℕ
 framed body = 0xFF ∷ (stuffed body ++ (0xFF ∷ 0xFF ∷ []))
 
 -- the number of FF bytes in a body
-unfoldable pub count_fF : List ℕ → ℕ
-count_fF [] = 0
-count_fF (byte ∷ body) = cond (eqb byte 0xFF) 1 0 + count_fF body
+unfoldable pub count_ff : List ℕ → ℕ
+count_ff [] = 0
+count_ff (byte ∷ body) = cond (eqb byte 0xFF) 1 0 + count_ff body
 
 -- the room rule
 unfoldable pub needed : List ℕ → ℕ
-needed body = length body + 3 + count_fF body
+needed body = length body + 3 + count_ff body
 
 -- the way back: the byte after each FF is dropped
 unfoldable pub unstuffed : List ℕ → List ℕ

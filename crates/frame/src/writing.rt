@@ -4,7 +4,7 @@ ghost use Rattle.room.specs.Laying.{Laid};
 ghost use Rattle.room.specs.Writing.{Leaves};
 ghost use Rattle.body.specs.Addresses.{address_bytes, address_length};
 ghost use Rattle.body.specs.Body.{unchecked, body_of};
-ghost use Rattle.frame.specs.Stuffing.{stuffed_byte, stuffed, framed, count_fF, needed};
+ghost use Rattle.frame.specs.Stuffing.{stuffed_byte, stuffed, framed, count_ff, needed};
 ghost use Rattle.frame.specs.Writing.{needed_for, written_frame};
 ghost use Rattle.frame.specs.Preparing.{Prepared};
 
@@ -56,7 +56,7 @@ fn assemble(address: Address, code: u8, data: &[u8], room: &mut [u8]) -> usize
 
 // The number of FF bytes in a body.
 fn count_ff(body: &[u8]) -> usize
-    ensures { (result ≡ count_fF body.now) × (result ≤ length body.now) }
+    ensures { (result ≡ count_ff body.now) × (result ≤ length body.now) }
 {
     let mut count = 0;
     let mut i = 0;

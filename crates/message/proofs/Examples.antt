@@ -15,7 +15,7 @@ use Rattle.body.specs.declared.addresses.Address.{Address}
 use Rattle.body.specs.declared.addresses.Address.TheVariants.{Short, Serial}
 use Rattle.body.specs.Addresses.{legal, address_bytes, address_in, address_length}
 use Rattle.body.specs.Body.{unchecked, body_of, short, code_in, data_in}
-use Rattle.frame.specs.Stuffing.{count_fF, needed}
+use Rattle.frame.specs.Stuffing.{count_ff, needed}
 use Rattle.codes.specs.declared.table.Role.TheVariants.{Request, Reply}
 use Rattle.meaning.specs.declared.meaning.What.TheVariants as says
 use Rattle.message.specs.declared.reading.Received.{Received}
@@ -82,5 +82,5 @@ texts =
 
 pub texts_judged : map (λ (text : Long). judged_message_write Request Of002 text.address 0xD2 (0x01 ∷ text.count ∷ replicate text.count 0x41) []) texts
     ≡ map (λ (text : Long). verdict_as.Refused text.answer) texts
-unfolding judged_message_write judged_message judged_code judged_data row_of line_of line_in legal body_of unchecked address_bytes low_bytes needed count_fF check_of feed_all feed_byte feed_bits shift_in
+unfolding judged_message_write judged_message judged_code judged_data row_of line_of line_in legal body_of unchecked address_bytes low_bytes needed count_ff check_of feed_all feed_byte feed_bits shift_in
 texts_judged = refl
