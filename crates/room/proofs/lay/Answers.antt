@@ -5,8 +5,6 @@ use Rattle.room.proofs.Over.{unlaid, part_laid}
 use borrow.Author.Rules.{rules}
 use Rattle.room.proofs.lay.Goals as goal
 
--- `room::lay` meets its contract: a slice at its place, or nothing where it would pass the room's end.
--- Why: what `copy` leaves in the part from that place on is the piece laid there.
 pub returns-then-room-at : goal.returns-then-room-at
 returns-then-room-at c = unlaid _ _ _ (omega arith)
 
