@@ -2,7 +2,6 @@
 -- Why: what the bytes not yet fed make of the register that the wide number stands for is what the whole slice makes of the first one.
 use Prim.Native.Nat.{◌-◌}
 use lib.ListN.{length}
-use Rattle.check_byte.specs.Register.{feed_all}
 use Rattle.check_byte.proofs.Slices.{Fours}
 use Rattle.check_byte.proofs.feed_all.Given as goal
 
