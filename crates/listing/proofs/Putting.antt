@@ -1,31 +1,16 @@
--- Shown: what a piece put ahead of what stands at the end of an array leaves there, and what two such pieces leave.
+-- Shown: what a piece put ahead of what stands at the end of an array leaves there.
 -- Why: what stands from the piece's place on is the piece and then what stood there before.
 use Prim.Native.Nat.{ℕ, suc, ◌+◌, ◌-◌, ◌/◌, ◌%◌, ◌^◌, ◌≤◌, ◌<◌}
 use mathlib.Core.Path.{◌≡◌, ◌∙◌, ap, sym, refl}
 use mathlib.Core.List.{List, [], ◌∷◌, ◌++◌, append_assoc}
 use native.Mathlib.Omega.{arith}
-use lib.ListN.{length, take, drop, set, length-append, length-set}
+use lib.ListN.{length, take, drop, set, length-set}
 use lib.Seq.{set_split, drop_at, length-take-le}
 use Rattle.room.specs.Laying.{Laid}
 use Rattle.room.proofs.Over.{laid_is, laid_length}
 use Rattle.listing.specs.Texts.{digit, decimal}
 use Rattle.listing.specs.Writing.{Ahead}
 use Rattle.listing.proofs.Decimals.{decimal_tens, decimal_one, decimal_size, tens_size}
-
--- no piece at all
-pub ahead_none : (at : ℕ) (text : List ℕ) → Ahead [] at text at text
-ahead_none at text = record { place = omega arith; text = refl; kept = refl }
-
--- a piece ahead of a piece is one piece
-pub ahead_then : (first second : List ℕ) {at middle last : ℕ} {before between left : List ℕ} → Ahead second at before middle between
-    → Ahead first middle between last left → Ahead (first ++ second) at before last left
-ahead_then first second {at} {middle} {last} {before} {between} {left} behind ahead =
-    record {
-      place = omega (arith, length-append first second, behind.place, ahead.place);
-      text =
-          ahead.text ∙ ap (λ (stood : List ℕ). first ++ stood) behind.text ∙ sym (append_assoc first second (drop at before));
-      kept = ahead.kept ∙ behind.kept;
-    }
 
 -- one byte stored
 pub set_ahead : (place byte : ℕ) (text : List ℕ) → 1 ≤ place → place ≤ length text → Ahead (byte ∷ []) place text (place - 1) (set text (place - 1) byte)
