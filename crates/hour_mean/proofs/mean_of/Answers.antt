@@ -4,7 +4,7 @@ use mathlib.Core.Path.{◌∙◌, sym}
 use native.Mathlib.Omega.{arith}
 use mir.Syntax.{w64}
 use mir.ValLaws.{to_z-of_z}
-use borrow.Author.Tests.{not-true, not-false, eq-eqb}
+use borrow.Author.Tests.{eq-eqb}
 use Rattle.low_first.proofs.SignedWords.{negated_fits}
 use Rattle.hour_mean.specs.Means.{mean_of}
 use Rattle.hour_mean.proofs.Parts.{Known, shared_positive, upper_small, lower_small, down_mean, up_mean}
@@ -12,12 +12,12 @@ use Rattle.hour_mean.proofs.mean_of.Goals as goal
 
 pub returns-then-not-is_sound : goal.returns-then-not-is_sound
 unfolding mean_of
-returns-then-not-is_sound c = rw (sym c.is_sound.ensures ∙ not-true _ c.if-not-is_sound.true)
+returns-then-not-is_sound c = rw (sym c.is_sound.ensures ∙ c.if-not-is_sound.true)
 
 pub returns-then-cell-eq0 : goal.returns-then-cell-eq0
 unfolding mean_of
 returns-then-cell-eq0 c =
-    rw (sym c.is_sound.ensures ∙ not-false _ c.if-not-is_sound.false, eq-eqb _ _ c.if-cell-eq0.true)
+    rw (sym c.is_sound.ensures ∙ c.if-not-is_sound.false, eq-eqb _ _ c.if-cell-eq0.true)
 
 -- what the code knows where it has the common divisor
 known :
@@ -25,7 +25,7 @@ known :
     Known c.args.cell c.size_of-size.result c.common-shared.result
 known c =
     record {
-      good = sym c.is_sound.ensures ∙ not-false _ c.if-not-is_sound.false;
+      good = sym c.is_sound.ensures ∙ c.if-not-is_sound.false;
       few = omega arith;
       some = c.if-cell-eq0.false;
       held = record { sfits = c.struct_told-1.given.1.1.0.1 };

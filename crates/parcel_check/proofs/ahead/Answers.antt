@@ -1,6 +1,6 @@
 -- `parcel_check::ahead` meets its contract: the bytes ahead of the first whole four as a number, and what is left feeds to the check.
 -- Why: a byte comes to stand behind a number by entering the register that it stands for.
-use Prim.Native.Nat.{ℕ, ◌+◌, ◌-◌, ◌*◌, ◌%◌, ◌^◌, ◌≤◌, ◌<◌}
+use Prim.Native.Nat.{ℕ, ◌+◌, ◌*◌, ◌%◌, ◌^◌, ◌≤◌, ◌<◌}
 use mathlib.Core.Path.{◌≡◌, ◌∙◌, subst, sym, ap}
 use native.Mathlib.Omega.{arith}
 use native.Mathlib.Nat.{pow-le-pow_right, pow-suc, lt_of_lt_of_le}

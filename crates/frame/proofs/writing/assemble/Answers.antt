@@ -9,8 +9,6 @@ use Rattle.room.proofs.Over.{laid_end}
 use Rattle.frame.proofs.Pieces.{body_laid, unchecked_fits}
 use Rattle.frame.proofs.writing.assemble.Goals as goal
 
--- `frame::assemble` meets its contract: behind address, code and data their check is laid.
--- Why: the check is worked out over exactly what was laid before it.
 pub put_unchecked-end-requires : goal.put_unchecked-end-requires
 put_unchecked-end-requires c = unchecked_fits _ _ _ c.requires
 

@@ -14,8 +14,6 @@ use lib.ListN.{length, drop, get_or, drop_of_length-le}
 use Rattle.frame.specs.Stuffing.{count_ff}
 use Rattle.frame.proofs.writing.count_ff.Goals as goal
 
--- `frame::count_ff` meets its contract: the FF bytes of a body are counted.
--- Why: those counted and those still to come are all of them.
 -- the next byte counts where it is FF
 count_next : (body : List ℕ) (i : ℕ) → i < length body → count_ff (drop i body) ≡ cond (eqb (get_or body i 0) 0xFF) 1 0 + count_ff (drop (i + 1) body)
 unfolding count_ff

@@ -15,8 +15,6 @@ use borrow.Author.Tests.{not-true, not-false}
 use Rattle.frame.proofs.Ready.{illegal_prepared, long_prepared, ready_prepared}
 use Rattle.frame.proofs.writing.prepare.Goals as goal
 
--- `frame::prepare` meets its contract: 5, then 2, then the body made ready and its room counted.
--- Why: each return is one of the three answers, and the FF bytes are counted in exactly what was assembled.
 -- behind the first test the address is legal, behind the second the body has at most 255 bytes
 is_legal : (c : goal.After-body_length) → legal c.args.address ≡ true
 is_legal c = sym c.legal.ensures ∙ not-false _ c.if-not-legal.false

@@ -16,8 +16,6 @@ use Rattle.frame.proofs.Stuffing.{framed_length}
 use Rattle.frame.proofs.Ready.{fields_refused, room_left, bytes_good, good_length, ready_body}
 use Rattle.frame.proofs.writing.write.Goals as goal
 
--- `frame::write` meets its contract: judged 5, 2, 9, and then the frame in the first bytes of the room.
--- Why: what was made ready tells 5 and 2 and the room needed; the body there is the one whose frame is put.
 -- where the answer is a number of bytes, the body was made ready, and what is put is that body
 ready : (c : goal.After-body_length-end) → Prepared c.args.address c.args.code c.args.«data».now (replicate 255 0) (Bytes c.in-Bytes.needed) c.prepare.new.1.1.1.0
 ready c = rw c.in-Bytes.is at c.prepare.ensures

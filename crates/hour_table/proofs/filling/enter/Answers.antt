@@ -4,7 +4,6 @@ use mathlib.Core.Path.{◌≡◌, ◌∙◌, sym, ap}
 use lib.IntN.{ℤ}
 use mir.Syntax.{w64}
 use mir.ValLaws.{to_z-of_z}
-use borrow.Author.Tests.{not-true, not-false}
 use Rattle.hour_cell.specs.declared.counting.CountsAs.{CountsAs}
 use Rattle.hour_cell.specs.Cells.{with_weight}
 use Rattle.hour_cell.specs.Counting.{counts_as}
@@ -15,7 +14,7 @@ use Rattle.hour_table.proofs.Slots.{weekday_in, hour_in, weekday_fits, hour_fits
 use Rattle.hour_table.proofs.filling.enter.Goals as goal
 
 pub returns-then-not-is_sound_table : goal.returns-then-not-is_sound_table
-returns-then-not-is_sound_table c = let given = c.args in c.answer.ensures ∙ beyond given.item given.t2 (sym c.is_sound_table.ensures ∙ not-true _ c.if-not-is_sound_table.true)
+returns-then-not-is_sound_table c = let given = c.args in c.answer.ensures ∙ beyond given.item given.t2 (sym c.is_sound_table.ensures ∙ c.if-not-is_sound_table.true)
 
 pub offset_bounds-table-weekday : goal.offset_bounds-table-weekday
 offset_bounds-table-weekday c = weekday_fits _ c.slot_of-slot.result c.slot_of-slot.ensures
@@ -54,7 +53,7 @@ goes_in :
 goes_in c e =
     let given = c.args in
     put_as_lem given.item given.t2 c.slot_of-slot.ensures e
-    ∙ put_entered given.item given.t2 (sym c.is_sound_table.ensures ∙ not-false _ c.if-not-is_sound_table.false)
+    ∙ put_entered given.item given.t2 (sym c.is_sound_table.ensures ∙ c.if-not-is_sound_table.false)
 
 pub returns-in-Weight : goal.returns-in-Weight
 returns-in-Weight c =

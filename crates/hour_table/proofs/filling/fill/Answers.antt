@@ -8,7 +8,6 @@ use lib.ListN.{length}
 use mir.Syntax.{w64}
 use mir.ValLaws.{to_z-of_z}
 use borrow.Author.Rules.{rules}
-use borrow.Author.Tests.{not-true, not-false}
 use Rattle.refusal.specs.declared.Verdict.TheVariants.{Good}
 use Rattle.records.specs.declared.stepping.Stepped.TheVariants as stepped_as
 use Rattle.records.specs.Stepping.{stepped}
@@ -26,7 +25,7 @@ use Rattle.hour_table.proofs.filling.fill.Goals as goal
 
 pub returns-then-not-is_sound_table : goal.returns-then-not-is_sound_table
 returns-then-not-is_sound_table c =
-    c.answer.ensures ∙ beyond c.args.log.now c.args.table (sym c.is_sound_table.ensures ∙ not-true _ c.if-not-is_sound_table.true)
+    c.answer.ensures ∙ beyond c.args.log.now c.args.table (sym c.is_sound_table.ensures ∙ c.if-not-is_sound_table.true)
 
 pub loop-cells-init : goal.loop-cells-init
 loop-cells-init c = (search rules, refl)
@@ -34,7 +33,7 @@ loop-cells-init c = (search rules, refl)
 -- what the loop has kept is what the log makes of the lent table
 kept : (c : goal.At-loop-cells) → from_here c.args.log.now (c.loop-cells.place / 20) c.loop-cells.place c.loop-cells.cells ≡ filled_from c.args.log.now c.args.table
 kept c =
-    c.loop-cells.invariant.1 ∙ from_front c.args.log.now c.args.table (sym c.is_sound_table.ensures ∙ not-false _ c.if-not-is_sound_table.false)
+    c.loop-cells.invariant.1 ∙ from_front c.args.log.now c.args.table (sym c.is_sound_table.ensures ∙ c.if-not-is_sound_table.false)
 
 -- the record that the step met
 met : (c : goal.After-counts_as) → stepped c.args.log.now c.loop-cells.place ≡ stepped_as.Record c.in-Record.item c.in-Record.next
