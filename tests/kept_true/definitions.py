@@ -45,13 +45,13 @@ def definitions_in(file: Path) -> list[Definition]:
 
 
 def module_of(file: Path) -> str:
-    """crates/body/specs/Body.antt is `body.specs.Body`, whichever of its crate's libraries a line names it by."""
+    """crates/body/specs/Body.antt is `body.specs.Body`; a line names it `Rattle.body.specs.Body`."""
     crate, *rest = file.relative_to(ROOT / 'crates').with_suffix('').parts
     return '.'.join([crate, *rest])
 
 
 def module_named(found: Import) -> str:
-    return re.sub(r'^Rattle·(\w+)(?:·specs|·proofs)?\.', r'\1.', found.module)
+    return re.sub(r'^Rattle\.', '', found.module)
 
 
 @once
@@ -75,7 +75,7 @@ def is_named(known: Definition) -> bool:
 
 @once
 def named_in_promises() -> set[str]:
-    """Every name in backticks; of `Values.value-bound` the part behind the dot."""
+    """Every name in backticks; of `Values.value_bound` the part behind the dot."""
     text = '\n'.join(lines_of(PROMISES))
     return {name for span in re.findall(r'`([^`]+)`', text) for name in re.split(r'[\s./:]+', span)}
 
@@ -93,11 +93,11 @@ def statements() -> set[str]:
 
 
 def is_an_end(known: Definition) -> bool:
-    """What is shown for its own sake: a one-answer law, a function's proof, a demand, what docs/PROMISES.md names by itself or by its file."""
+    """What is shown for its own sake: a one-answer law, an answer to a goal, a demand, what docs/PROMISES.md names by itself or by its file."""
     crate = known.file.relative_to(ROOT / 'crates').parts[0]
-    if known.file.name == 'OneAnswer.antt' and known.name.endswith('-one'):
+    if known.file.name == 'OneAnswer.antt' and known.name.endswith('_one'):
         return True
-    if known.name.endswith('-spec') or known.name in named_in_promises():
+    if known.claims.startswith('goal.') or known.name.endswith('_spec') or known.name in named_in_promises():
         return True
     if known.file.stem in files_in_promises(crate):
         return True

@@ -14,8 +14,8 @@ FOR_THE_SHEET = {'bad_bit': ('bit_meter', 'bit_vectors', 'crew_sheet')}
 
 
 def names(crate: str, other: str) -> bool:
-    """Code names a crate by `other::`, definitions, proofs and contracts by `Rattle·other.`"""
-    named = re.compile(rf'(?<![\w:]){other}::|Rattle·{other}\.')
+    """Code names a crate by `other::`, definitions, proofs and contracts by `Rattle.other.`"""
+    named = re.compile(rf'(?<![\w:]){other}::|Rattle\.{other}\.')
     return any(named.search(line) for file in files_of(crate) for line in bare_lines(file))
 
 

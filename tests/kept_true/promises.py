@@ -37,10 +37,10 @@ def has_lemma(crate: str, name: str) -> bool:
 
 def law_of(crate: str, row: Row) -> list[Finding]:
     """The column 'one answer' names a law of the crate's own; the exported writers share one of `crossing`."""
-    named = re.findall(r'`([\w-]+-one)`', row.cells[2])
+    named = re.findall(r'`(\w+_one)`', row.cells[2])
     if len(named) != 1:
         return [Finding(PROMISES, row.line, f'`{row.name}` does not name one one-answer law')]
-    home = 'crossing' if named[0] == 'writes-one' else crate
+    home = 'crossing' if named[0] == 'writes_one' else crate
     return [] if has_lemma(home, named[0]) else [Finding(PROMISES, row.line, f'`{home}` has no law `{named[0]}`')]
 
 

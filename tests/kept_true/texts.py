@@ -63,7 +63,7 @@ def crates() -> dict[str, tuple[int, list[str]]]:
     for number, line in enumerate(lines_of(ROOT / 'crates.txt'), 1):
         if ':' in line and not line.startswith('#'):
             name, given = line.split(':')
-            found[name] = (number, given.split())
+            found[name.split()[0]] = (number, given.split())  # behind its name a crate may be called a static library
     return found
 
 
@@ -166,10 +166,10 @@ def qualified_in(file: Path) -> set[tuple[str, str]]:
 
 
 def lines_with(file: Path, name: str) -> set[int]:
-    """The lines that use a name of antt. `_+_` is used as `+`, `if_then_else_` by its words, `syntax ⟦_⟧` by its brackets."""
+    """The lines that use a name of antt. `◌+◌` is used as `+`, a name of several parts by its words."""
     named = lines_naming(file)
     here = set(named.get(name, ()))
-    parts = [part for part in re.split(r'[_\s{}]+', name.removeprefix('syntax ')) if part]
+    parts = [part for part in re.split(r'[◌\s{}]+', name.removeprefix('syntax ')) if part]
     if parts != [name] and all(part in named for part in parts):
         here |= named[parts[0]]
     return here

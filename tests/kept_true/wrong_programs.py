@@ -41,8 +41,9 @@ def edits_of(crate: str) -> list[Edit]:
 
 
 def row_name(edit: Edit) -> str:
-    """A crate of laws has them in place of functions, and a law's name has hyphens."""
-    return edit.function.replace('_', '-') if edit.crate in OF_LAWS else edit.function
+    """A crate of laws has them in place of functions, and a law that would have a definition's name ends in `_lem`."""
+    law = edit.function + '_lem'
+    return law if edit.crate in OF_LAWS and law in rows_of(edit.crate) else edit.function
 
 
 def labels(row: Row) -> list[str]:

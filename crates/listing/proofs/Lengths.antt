@@ -26,7 +26,7 @@ address_length_lem (Short address) = omega (arith, (decimal_size address).1)
 address_length_lem (Serial serial) = omega (arith, (decimal_size serial).1)
 
 -- hyphens stand for as many digits
-shown_length : (over : Bool) (number : ℕ) → length (cond over (spelt "------") (sixDigits number)) ≡ 6
+shown_length : (over : Bool) (number : ℕ) → length (cond over (spelt "------") (six_digits number)) ≡ 6
 shown_length true number = refl
 shown_length false number = refl
 

@@ -43,7 +43,7 @@ mark_fields reading = one_digit reading.point ∷ (mark_byte reading.settled ∷
 
 -- the digits, or six hyphens of an overloaded bridge
 abbrev pub digits_field : Reading → List ℕ
-digits_field reading = cond reading.overload (spelt "------") (sixDigits reading.number)
+digits_field reading = cond reading.overload (spelt "------") (six_digits reading.number)
 
 -- the fields of a reading: sign, digits, and then the marks
 abbrev pub reading_fields : Reading → List (List ℕ)

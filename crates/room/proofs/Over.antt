@@ -1,14 +1,15 @@
 -- Shown: what pieces laid one behind the other leave in a room, and its length.
 -- Why: a piece laid behind what is there already makes one longer piece over the same room.
-use Prim.Native.Nat.{ℕ, suc, ◌+◌, ◌-◌, ◌/◌, ◌%◌, ◌^◌, ◌≤◌, ◌<◌}
+use Prim.Native.Nat.{ℕ, suc, ◌+◌, ◌/◌, ◌%◌, ◌^◌, ◌≤◌, ◌<◌}
 use mathlib.Core.Path.{◌≡◌, ◌∙◌, sym, ap}
-use mathlib.Core.List.{List, [], ◌∷◌, ◌++◌, append-nil, append_assoc}
+use mathlib.Core.List.{List, [], ◌∷◌, ◌++◌, append_assoc}
 use native.Mathlib.Omega.{arith}
 use borrow.Author.Tests.{le-leb, lt-leb}
-use lib.ListN.{length, take, drop, set, length-append, length-drop, drop_of_length-le, take-append-drop}
-use lib.Seq.{take_all, take-length, length-take-le, set_split, take_at, drop-append-add, drop-drop}
+use lib.ListN.{length, take, drop, set, length-append, length-drop, take-append-drop}
+use lib.Seq.{length-take-le, set_split, take_at, drop-append-add, drop-drop}
 use native.Mathlib.Numerals.{add-one}
 use native.Mathlib.Nat.{add-zero, zero-add, add_assoc}
+use borrow.Rule.Slice.PartMut.{put_mid}
 use Rattle.low_first.specs.LowFirst.{low_bytes}
 use Rattle.low_first.proofs.Digits.{low_length, low_next}
 use Rattle.room.specs.Laying.{over, laid, behind, Laid}
@@ -58,16 +59,12 @@ set_laid at byte room h =
     }
 
 -- a slice copied to where it fits
-pub part_laid : (at : ℕ) (source room part : List ℕ) → at + length source ≤ length room
-    → part ≡ take (length source) source ++ drop (length source) (take (length room - at) (drop at room))
-    → Laid at source room (at + length source) (take at room ++ (part ++ drop (length room - at) (drop at room)))
-part_laid at source room part h e =
-    let rest : length (drop at room) ≤ length room - at = omega (arith, length-drop at room) in
+pub part_laid : (at count : ℕ) (source room part : List ℕ) → at + length source ≤ length room → count ≡ length source → part ≡ source
+    → Laid at source room (at + length source) (put_mid at count room part)
+part_laid at count source room part h sized e =
     record {
       place = sym (behind_fits at source room h);
-      room =
-          rw (e, take-length, take_all (length room - at) (drop at room) rest, drop_of_length-le (drop at room) rest, append-nil, drop-drop)
-          (sym (laid_is at source room h));
+      room = rw (e, sized, drop-drop) (sym (laid_is at source room h));
     }
 
 -- no piece at all

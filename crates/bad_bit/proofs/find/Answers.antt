@@ -13,8 +13,6 @@ use Rattle.bad_bit.proofs.Search.{same_search}
 use Rattle.bad_bit.proofs.BitTest.{power_test}
 use Rattle.bad_bit.proofs.find.Goals as goal
 
--- `bad_bit::find` meets its contract: which single bit makes the body pass, or none; 25 and 26 in their order.
--- Why: the tests are the definition's; a bit makes the body pass where the register is the power of x of its place, and the table is looked through for that.
 pub returns-then-length : goal.returns-then-length
 returns-then-length c = sym (said_outside c.args.body.now c.if-length.true)
 

@@ -7,8 +7,6 @@ use Rattle.check_byte.specs.Register.{shift_in, feed_bits, feed_byte}
 use Rattle.check_byte.proofs.Halves.{by_halves}
 use Rattle.check_byte.proofs.feed.Goals as goal
 
--- `check_byte::feed` meets its contract: a byte enters the register.
--- Why: the code's two tables pass the computed test: they hold what a zero byte makes of the register's halves.
 -- the tables of the code
 abbrev low_half : List ℕ
 low_half = 0x00 ∷ 0x69 ∷ 0xD2 ∷ 0xBB ∷ 0xCD ∷ 0xA4 ∷ 0x1F ∷ 0x76 ∷ 0xF3 ∷ 0x9A ∷ 0x21 ∷ 0x48 ∷ 0x3E ∷ 0x57 ∷ 0xEC ∷ 0x85 ∷ []

@@ -1,6 +1,6 @@
 -- `parcel_check::check_of` meets its contract: the check of a body.
 -- Why: what the bytes not yet fed make of the register that the wide number stands for is what the whole body makes of an empty one.
-use Prim.Native.Nat.{ℕ, ◌+◌, ◌-◌, ◌*◌, ◌≤◌, ◌<◌}
+use Prim.Native.Nat.{ℕ, ◌+◌, ◌*◌, ◌≤◌, ◌<◌}
 use mathlib.Core.Path.{◌≡◌, ◌∙◌, ap}
 use mathlib.Core.List.{[], ◌∷◌}
 use native.Mathlib.Omega.{arith}
@@ -19,56 +19,22 @@ four_is : (first second third fourth : ℕ) → low_first (fourth ∷ third ∷ 
 unfolding low_first
 four_is first second third fourth = omega arith
 
--- the body's elements are bytes
-byte_each : (c : goal.After-shared_slice_known-1) (i : ℕ) → get_or c.args.body.now i 0 < 256
-byte_each c i = (c.shared_slice_known-1.given i).fits
-
-pub loop-i-init : goal.loop-i-init
-loop-i-init c = (c.ahead-wide.type-inv, omega arith, omega arith, c.ahead-wide.ensures)
-
-pub overflow_add-i : goal.overflow_add-i
-overflow_add-i c = omega arith
-
-pub bounds-body-i : goal.bounds-body-i
-bounds-body-i c = omega arith
-
-pub overflow_add-i-in-loop-i : goal.overflow_add-i-in-loop-i
-overflow_add-i-in-loop-i c = omega arith
-
-pub bounds-body-i-in-loop-i : goal.bounds-body-i-in-loop-i
-bounds-body-i-in-loop-i c = omega arith
-
-pub overflow_add-i-in-loop-i-2 : goal.overflow_add-i-in-loop-i-2
-overflow_add-i-in-loop-i-2 c = omega arith
-
-pub bounds-body-i-in-loop-i-2 : goal.bounds-body-i-in-loop-i-2
-bounds-body-i-in-loop-i-2 c = omega arith
-
-pub bounds-body-i-in-loop-i-3 : goal.bounds-body-i-in-loop-i-3
-bounds-body-i-in-loop-i-3 c = omega arith
-
-pub overflow_add-i-in-loop-i-3 : goal.overflow_add-i-in-loop-i-3
-overflow_add-i-in-loop-i-3 c = omega arith
-
-pub loop-i-smaller : goal.loop-i-smaller
-loop-i-smaller c = omega arith
-
 pub loop-i-preserved : goal.loop-i-preserved
 loop-i-preserved c =
     let folded = c.below_32 in
     let body = c.args.body.now in
-    let each : (i : ℕ) → get_or body i 0 < 256 = byte_each (goal.at.loop-i-preserved c).After-shared_slice_known-1 in
+    let each : (i : ℕ) → get_or body i 0 < 256 = λ i. (c.type_inv.body i).fits in
     let fed : all_in enter_byte (stands_for (bit_xor folded.result c.word.result)) (drop (c.loop-i.i + 4) body) ≡ parcel_check body =
     ap (λ (n : ℕ). all_in enter_byte n (drop (c.loop-i.i + 4) body))
-    (four_behind c.loop-i.wide c.word.result folded.result c.word.type-inv folded.ensures
+    (four_behind c.loop-i.wide c.word.result folded.result (omega arith) folded.ensures
     ∙ ap (λ (n : ℕ). stands_for (c.loop-i.wide * 4294967296 + n))
     (c.word.ensures ∙ four_is (get_or body c.loop-i.i 0) (get_or body (c.loop-i.i + 1) 0) (get_or body (c.loop-i.i + 2) 0) (get_or body (c.loop-i.i + 3) 0)))
     ∙ four_in_lem enter_byte stands_for byte_behind body each c.loop-i.wide c.loop-i.i c.loop-i.invariant.0 (omega arith)
     ∙ c.loop-i.invariant.3 in
-    (xor_lt 32 folded.result c.word.result folded.type-inv c.word.type-inv, omega arith, omega arith, fed)
+    (xor_lt 32 folded.result c.word.result (omega arith) (omega arith), omega arith, omega arith, fed)
 
 pub returns : goal.returns
 returns c =
     let body = c.args.body.now in
     let none : length body ≤ c.loop-i.i = omega arith in
-    c.register_of.ensures ∙ rw (drop_of_length-le body none) (goal.at.returns c).At-loop-i c.loop-i.invariant.3
+    c.register_of.ensures ∙ rw (drop_of_length-le body none) at c.loop-i.invariant.3

@@ -8,8 +8,6 @@ use Rattle.parcel_check.specs.Check.{enter_byte, parcel_check}
 use Rattle.parcel_check.proofs.Laws.{stands_for}
 use Rattle.parcel_check.proofs.check_of.Given as goal
 
--- `parcel_check::check_of` meets its contract: the check of a body.
--- Why: what the bytes not yet fed make of the register that the wide number stands for is what the whole body makes of an empty one.
 -- whole fours are left from the place on, and feed to the body's check
 abbrev pub invariant-loop-i : goal.invariant-loop-i
 invariant-loop-i l =

@@ -1,6 +1,6 @@
 -- `room::lay_low` meets its contract: a number's bytes at their place, low byte first, or nothing where they would pass the room's end.
 -- Why: after i turns the number's first i bytes are laid, and what is left of it is its quotient by 256 ^ i.
-use Prim.Native.Nat.{suc, ◌+◌, ◌-◌, ◌≤◌}
+use Prim.Native.Nat.{suc, ◌+◌, ◌≤◌}
 use mathlib.Core.Path.{◌≡◌}
 use native.Mathlib.Omega.{arith}
 use native.Mathlib.Numerals.{add-one}

@@ -13,4 +13,4 @@ overflow_mul-result c =
 pub returns : goal.returns
 returns c =
     let small = size_le c.args.number c.args.point c.requires.0 in
-    rw (c.widened.ensures, c.step.ensures) (refl, small)
+    rw (c.widened.ensures, c.step.ensures) (record { value = refl; small = small })

@@ -12,8 +12,6 @@ use Rattle.weight.specs.Tenths.{value_of}
 use Rattle.weight.proofs.Sizes.{legal_number, legal_point}
 use Rattle.weight.proofs.value_of.Goals as goal
 
--- `weight::value_of` meets its promise: refusal 8, then 24 of an overloaded reading, and otherwise the digits times 10^(7 - point) with the sign.
--- Why: where one of the two tests fails, the first that does says which refusal; size and sign are what their callees promise.
 -- where both tests do not hold together, the value that they allow is not asked for
 refused-so : (within over : Bool) (overloaded tenths outside : Value) → (within && not over) ≡ false
     → cond within overloaded outside ≡ cond within (cond over overloaded tenths) outside
@@ -33,8 +31,8 @@ returns-then-within-reading c =
     let reading = c.args.reading in
     let (so, off) = (and-eq-true_iff c.in_range-within.result (not reading.overload)).0 c.if-within-reading.true in
     let within = sym c.in_range-within.ensures ∙ so in
-    ap Tenths (to_z-of_z w64 c.with_sign.result (record { sfits = c.with_sign.type-inv }) ∙ c.with_sign.ensures)
-    ∙ simp (within, not-true reading.overload off, c.size_of-size.ensures.0)
+    ap Tenths (to_z-of_z w64 c.with_sign.result (record { sfits = c.with_sign.type_inv }) ∙ c.with_sign.ensures)
+    ∙ simp (within, not-true reading.overload off, c.size_of-size.ensures.value)
 
 pub returns : goal.returns
 unfolding value_of

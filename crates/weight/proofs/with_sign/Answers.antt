@@ -10,8 +10,6 @@ use mir.ValLaws.{to_z_pos, to_z-of_z}
 use Rattle.weight.proofs.Sizes.{abs_signed, fits_64}
 use Rattle.weight.proofs.with_sign.Goals as goal
 
--- `weight::with_sign` meets its promise: the size as it is, or its negation, and minus zero is 0.
--- Why: a size below 2^63 is read back from its bits as itself, and 0 less it is its negation.
 negated : (size : ℕ) → size < 2 ^ 63 → pos 0 -ℤ to_z w64 size ≡ neg_ℤ (pos size)
 negated size h = ap (λ (z : ℤ). pos 0 -ℤ z) (to_z_pos w64 size h) ∙ +ℤ_idl (neg_ℤ (pos size))
 

@@ -7,8 +7,6 @@ use Rattle.body.specs.Addresses.{address_in}
 use Rattle.body.proofs.Shortness.{three, six}
 use Rattle.body.proofs.bodies.address_in.Goals as goal
 
--- `body::address_in` meets its contract: a first byte 00 leads to the three bytes of a serial, low byte first, any other is a short address.
--- Why: a body that is not short holds those bytes, and they are a word whose high byte is zero.
 pub bounds-body-0 : goal.bounds-body-0
 bounds-body-0 c = omega (arith, three _ c.requires)
 

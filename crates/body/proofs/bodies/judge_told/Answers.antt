@@ -4,8 +4,6 @@ use mathlib.Core.Path.{◌∙◌, sym}
 use borrow.Author.Tests.{lt-ltb, le-ltb}
 use Rattle.body.proofs.bodies.judge_told.Goals as goal
 
--- `body::judge_told` meets its contract: a lent body is judged 2, 1, 4, 5 in that order.
--- Why: each return stands behind the tests that come before it in the definition.
 pub returns-then-body-gt-LONGEST_BODY : goal.returns-then-body-gt-LONGEST_BODY
 returns-then-body-gt-LONGEST_BODY c = rw (lt-ltb _ _ c.if-body-gt-LONGEST_BODY.true)
 

@@ -7,17 +7,9 @@ use mathlib.Core.List.{List}
 use native.Mathlib.Omega.{arith}
 use native.Mathlib.Numerals.{add-one}
 use lib.ListN.{length, get_or}
-use Rattle.body.specs.Body.{longest}
-use Rattle.capture_walker.specs.Walking.{step_from}
 use Rattle.capture_walker.specs.Scanning.{delimited_at, starts_body}
 use Rattle.capture_walker.proofs.Scan.{next_place}
 use Rattle.capture_walker.proofs.starting.ahead_of_body.Goals as goal
-
--- `capture_walker::ahead_of_body` meets its contract: it ends, and the step from behind the bytes that it passed is the step from where it began.
--- Why: each byte passed on the way starts no body, and the step from behind such a byte is the step from it.
--- the step from one place is the step from the other
-abbrev Same : List ℕ → ℕ → ℕ → Type 0
-Same block from at = (lent : List ℕ) → length lent ≡ longest → step_from block at lent ≡ step_from block from lent
 
 pub loop-at-init : goal.loop-at-init
 loop-at-init c = (omega (arith, c.requires), c.is_delimited-delimited.ensures, λ lent full. refl, omega arith)

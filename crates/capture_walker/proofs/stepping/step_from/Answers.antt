@@ -15,8 +15,6 @@ use Rattle.capture_walker.proofs.OneStep.{step_ends, step_unlent, step_heard, st
 use Rattle.capture_walker.proofs.WithinReach.{part_tells}
 use Rattle.capture_walker.proofs.stepping.step_from.Goals as goal
 
--- `capture_walker::step_from` meets its contract: "end" at or past the block's end, and from any other place what the rest of the block gives.
--- Why: the rest is heard by `listen` from where the next body starts, and the step from there is the step from the place.
 -- an answer "end", with the lent bytes as they were
 said : (place : ℕ) (lent : List ℕ) {answered : Stepped} → answered ≡ record { next = next_as.End; place = place } → ◌≡◌ {A = StepTaken} (record { answer = answered; body = lent }) (said_end place lent)
 said place lent is = λ i. record { answer = is i; body = lent }

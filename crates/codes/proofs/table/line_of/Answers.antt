@@ -1,11 +1,9 @@
 -- `codes::line_of` meets its contract: each code has the line that the table gives it, and any other code has none.
 -- Why: in an arm the code is the one that the arm names; in the last it is none of them.
-use borrow.Author.Tests.{ne_eqb}
+use Rattle.std.proofs.Common.{rules, tests}
 use Rattle.codes.specs.Table.{line_of, line_in}
 use Rattle.codes.proofs.table.line_of.Goals as goal
 
--- `codes::line_of` meets its contract: each code has the line that the table gives it, and any other code has none.
--- Why: in an arm the code is the one that the arm names; in the last it is none of them.
 pub returns-in-161 : goal.returns-in-161
 unfolding line_of line_in
 returns-in-161 c = rw c.in-161.is
@@ -68,4 +66,4 @@ returns-in-238 c = rw c.in-238.is
 
 pub returns-in_default : goal.returns-in_default
 unfolding line_of line_in
-returns-in_default c = rw (ne_eqb _ _ c.in_default.rest.0.0.0.0.0.0.0.0.0.0.0.0.0.0.1, ne_eqb _ _ c.in_default.rest.0.0.0.0.0.0.0.0.0.0.0.0.0.1, ne_eqb _ _ c.in_default.rest.0.0.0.0.0.0.0.0.0.0.0.0.1, ne_eqb _ _ c.in_default.rest.0.0.0.0.0.0.0.0.0.0.0.1, ne_eqb _ _ c.in_default.rest.0.0.0.0.0.0.0.0.0.0.1, ne_eqb _ _ c.in_default.rest.0.0.0.0.0.0.0.0.0.1, ne_eqb _ _ c.in_default.rest.0.0.0.0.0.0.0.0.1, ne_eqb _ _ c.in_default.rest.0.0.0.0.0.0.0.1, ne_eqb _ _ c.in_default.rest.0.0.0.0.0.0.1, ne_eqb _ _ c.in_default.rest.0.0.0.0.0.1, ne_eqb _ _ c.in_default.rest.0.0.0.0.1, ne_eqb _ _ c.in_default.rest.0.0.0.1, ne_eqb _ _ c.in_default.rest.0.0.1, ne_eqb _ _ c.in_default.rest.0.1, ne_eqb _ _ c.in_default.rest.1)
+returns-in_default c = search (tests, rules)

@@ -10,4 +10,4 @@ unfolding entry_heard
 returns-in-Frame c = rw (c.entry_of.ensures, c.read.ensures, c.front.ensures, c.in-Frame.is)
 
 pub returns-in_default : goal.returns-in_default
-returns-in_default c = c.heard_without_check.ensures ∙ no_frame _ c.args.event c.args.body.now c.in_default.keys2
+returns-in_default c = c.heard_without_check.ensures ∙ no_frame _ c.args.event c.args.body.now c.in_default.not-Frame

@@ -6,8 +6,6 @@ use Rattle.room.specs.Laying.{Laid}
 use Rattle.frame.specs.Stuffing.{stuffed}
 use Rattle.frame.proofs.writing.put_body.Given as goal
 
--- `frame::put_body` meets its contract: the body's bytes go onto the wire one behind the other.
--- Why: after i turns the stuffed form of the first i bytes is laid.
 abbrev pub invariant-loop-i : goal.invariant-loop-i
 invariant-loop-i l = (l.i ≤ length l.body) × Laid l.at (stuffed (take l.i l.body)) l.initial.room l.next l.room
 

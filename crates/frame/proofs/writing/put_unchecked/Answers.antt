@@ -6,8 +6,6 @@ use Rattle.body.specs.Body.{unchecked}
 use Rattle.frame.proofs.Pieces.{unchecked_laid}
 use Rattle.frame.proofs.writing.put_unchecked.Goals as goal
 
--- `frame::put_unchecked` meets its contract: address, code and data lie one behind the other.
--- Why: pieces laid one behind the other are one piece.
 pub put_address-behind_address-requires : goal.put_address-behind_address-requires
 unfolding unchecked
 put_address-behind_address-requires c = omega (arith, simp length-append at c.requires)

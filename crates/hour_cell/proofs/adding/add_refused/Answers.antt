@@ -6,21 +6,17 @@ use mathlib.Core.Bool.{true}
 use mir.Syntax.{w64}
 use mir.ValLaws.{to_z-of_z}
 use borrow.Author.Rules.{rules}
-use borrow.Author.Tests.{not-true, not-false}
 use Rattle.hour_cell.specs.Cells.{sound}
 use Rattle.hour_cell.proofs.Counted.{refused_beyond, refused_full, refused_more_lem}
 use Rattle.hour_cell.proofs.adding.add_refused.Goals as goal
 
 pub returns-then-not-is_sound : goal.returns-then-not-is_sound
-returns-then-not-is_sound c = refused_beyond _ (sym c.is_sound.ensures ∙ not-true _ c.if-not-is_sound.true)
-
-was-sound : (c : goal.Else-not-is_sound) → sound c.args.cell ≡ true
-was-sound c = sym c.is_sound.ensures ∙ not-false _ c.if-not-is_sound.false
+returns-then-not-is_sound c = refused_beyond _ (sym c.is_sound.ensures ∙ c.if-not-is_sound.true)
 
 pub returns-then-cell-eq-HIGHEST : goal.returns-then-cell-eq-HIGHEST
-returns-then-cell-eq-HIGHEST c = refused_full _ (was-sound (goal.at.returns-then-cell-eq-HIGHEST c).Else-not-is_sound) c.if-cell-eq-HIGHEST.true
+returns-then-cell-eq-HIGHEST c = refused_full _ (sym c.is_sound.ensures ∙ c.if-not-is_sound.false) c.if-cell-eq-HIGHEST.true
 
 pub returns : goal.returns
 returns c =
     let few : c.args.cell.refused < 65535 = search rules in
-    refused_more_lem c.args.cell (was-sound (goal.at.returns c).Else-not-is_sound) few refl refl (to_z-of_z w64 _ (record { sfits = c.struct_told-1.given.1.1.0.1 }))
+    refused_more_lem c.args.cell (sym c.is_sound.ensures ∙ c.if-not-is_sound.false) few refl refl (to_z-of_z w64 _ (search rules))

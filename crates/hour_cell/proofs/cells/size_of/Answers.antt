@@ -5,8 +5,6 @@ use mir.Syntax.{w64}
 use Rattle.low_first.proofs.SignedWords.{Below, is_below, up_casts, next_fits, below_fits, below_told}
 use Rattle.hour_cell.proofs.cells.size_of.Goals as goal
 
--- `hour_cell::size_of` meets its contract: the sum without its sign, also of the lowest number of 64 bits.
--- Why: a number not below 0 is its own size, and one below 0 is as far below -1 as its size is above 1.
 pub overflow_cast-result : goal.overflow_cast-result
 overflow_cast-result c = up_casts w64 c.args.sum c.ranges.sum c.if-sum-ge0.true
 

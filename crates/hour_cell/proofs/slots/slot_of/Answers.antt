@@ -4,8 +4,6 @@ use mathlib.Core.Path.{refl}
 use Rattle.hour_cell.specs.Slots.{slot_of}
 use Rattle.hour_cell.proofs.slots.slot_of.Goals as goal
 
--- `hour_cell::slot_of` meets its contract: whole days modulo seven and whole hours modulo twenty-four.
--- Why: the code is the definition's arithmetic, and the casts keep numbers below 24.
 pub returns : goal.returns
 unfolding slot_of
 returns c = refl

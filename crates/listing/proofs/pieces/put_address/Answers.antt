@@ -1,11 +1,7 @@
 -- `listing::put_address` meets its contract: an address in decimal, or `0:` and the serial.
 -- Why: in each arm the address is the constructor that the arm names.
 use native.Mathlib.Omega.{arith}
-use borrow.Author.Rules.{rules}
 use Rattle.listing.proofs.pieces.put_address.Goals as goal
-
-slice-aggregate-put-counted : tie.Need-slice-aggregate-put-counted
-slice-aggregate-put-counted c = search rules
 
 pub returns-in-Short : goal.returns-in-Short
 returns-in-Short c = (rw c.in-Short.is c.put_decimal.ensures.0, omega (arith, c.put_decimal.ensures.1))

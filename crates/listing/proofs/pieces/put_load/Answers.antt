@@ -1,14 +1,7 @@
 -- `listing::put_load` meets its contract: the words of a weight line.
 -- Why: in each arm the load is the constructor that the arm names.
 use native.Mathlib.Omega.{arith}
-use borrow.Author.Rules.{rules}
 use Rattle.listing.proofs.pieces.put_load.Goals as goal
-
-slice-aggregate-put : tie.Need-slice-aggregate-put
-slice-aggregate-put c = search rules
-
-slice-aggregate-put-2 : tie.Need-slice-aggregate-put-2
-slice-aggregate-put-2 c = search rules
 
 pub returns-in-Net : goal.returns-in-Net
 returns-in-Net c = (rw c.in-Net.is c.put.ensures, omega (arith, c.put.ensures.place))

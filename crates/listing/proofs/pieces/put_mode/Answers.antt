@@ -3,14 +3,11 @@
 use mathlib.Core.Path.{◌≡◌, refl}
 use mathlib.Core.Bool.{Bool, true, false, cond}
 use native.Mathlib.Omega.{arith}
-use borrow.Author.Rules.{rules}
 use Rattle.weight.specs.Families.{net_mode, scale_number}
 use Rattle.listing.specs.Texts.{spelt}
 use Rattle.listing.specs.Lines.{rest, fifth_fields}
 use Rattle.listing.proofs.pieces.put_mode.Goals as goal
 
--- `listing::put_mode` meets its contract: the field of bit 5 by the family, and the end of the line.
--- Why: in each arm the family is the one that the arm names, and the table tells what it calls bit 5.
 -- the words by the bit
 net-words : (set : Bool) → cond set (spelt " net\n") (spelt " gross\n") ≡ rest (fifth_fields net_mode set)
 net-words true = refl
@@ -19,27 +16,6 @@ net-words false = refl
 scale-words : (set : Bool) → cond set (spelt " scale1\n") (spelt " scale0\n") ≡ rest (fifth_fields scale_number set)
 scale-words true = refl
 scale-words false = refl
-
-slice-aggregate-put : tie.Need-slice-aggregate-put
-slice-aggregate-put c = search rules
-
-slice-aggregate-put-either : tie.Need-slice-aggregate-put-either
-slice-aggregate-put-either c = search rules
-
-slice-aggregate-put-either-2 : tie.Need-slice-aggregate-put-either-2
-slice-aggregate-put-either-2 c = search rules
-
-slice-aggregate-put-either-3 : tie.Need-slice-aggregate-put-either-3
-slice-aggregate-put-either-3 c = search rules
-
-slice-aggregate-put-either-4 : tie.Need-slice-aggregate-put-either-4
-slice-aggregate-put-either-4 c = search rules
-
-slice-aggregate-put-either-5 : tie.Need-slice-aggregate-put-either-5
-slice-aggregate-put-either-5 c = search rules
-
-slice-aggregate-put-either-6 : tie.Need-slice-aggregate-put-either-6
-slice-aggregate-put-either-6 c = search rules
 
 pub returns-in-Plain : goal.returns-in-Plain
 returns-in-Plain c = (rw c.in-Plain.is c.put.ensures, omega (arith, c.put.ensures.place))

@@ -5,4 +5,4 @@ use Rattle.meaning.proofs.meaning.say_event.Goals as goal
 
 pub returns : goal.returns
 unfolding said
-returns c = c.judged.ensures
+returns c family = c.judged.ensures

@@ -12,4 +12,4 @@ bounds-data-0 c = omega (arith, counted c.args.«data».now c.requires.0)
 
 pub returns : goal.returns
 unfolding said
-returns c = rw (← c.is_among.ensures) c.judged.ensures
+returns c family = rw (← c.is_among.ensures) c.judged.ensures

@@ -2,7 +2,6 @@
 -- Why: each return stands behind the tests that come before it in the definition.
 use mathlib.Core.Path.{◌∙◌, sym}
 use native.Mathlib.Omega.{arith}
-use borrow.Author.Tests.{not-false}
 use Rattle.meaning.specs.Judging.{told, judged_code, judged_message, judged_data, said}
 use Rattle.meaning.proofs.meaning.tell.Goals as goal
 
@@ -15,7 +14,7 @@ unfolding told judged_message judged_code judged_data
 returns-then-not-length_right c = rw (← c.row_of-row.ensures, ← c.in_table.ensures, c.if-not-in_table.false, ← c.length_right.ensures, c.if-not-length_right.true)
 
 pub say-requires : goal.say-requires
-say-requires c = (sym c.length_right.ensures ∙ not-false _ c.if-not-length_right.false, omega (arith, c.address_length-from.ensures.1))
+say-requires c = (sym c.length_right.ensures ∙ c.if-not-length_right.false, omega (arith, c.address_length-from.ensures.1))
 
 pub returns : goal.returns
 unfolding told judged_message judged_code judged_data said

@@ -7,8 +7,6 @@ use Rattle.parcel_scale.specs.Frame.{headed}
 use Rattle.parcel_scale.proofs.Frames.{and_assoc}
 use Rattle.parcel_scale.proofs.reading.is_headed.Goals as goal
 
--- `parcel_scale::is_headed` meets its contract: three bytes at least, and they are the header.
--- Why: the code's tests are the definition's.
 pub returns-then-bytes-lt3 : goal.returns-then-bytes-lt3
 unfolding headed
 returns-then-bytes-lt3 c = rw (lt-leb _ _ c.if-bytes-lt3.true)

@@ -3,8 +3,6 @@
 use borrow.Author.Tests.{eq-eqb, ne_eqb}
 use Rattle.parcel_scale.proofs.reading.plain.Goals as goal
 
--- `parcel_scale::plain` meets its contract: the message where there are no data, and 7 otherwise.
--- Why: the code's test is the definition's.
 pub returns-then-length-eq0 : goal.returns-then-length-eq0
 returns-then-length-eq0 c = rw (eq-eqb _ _ c.if-length-eq0.true)
 

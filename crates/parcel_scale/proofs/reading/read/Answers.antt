@@ -14,8 +14,6 @@ use Rattle.parcel_scale.specs.Reading.{read_body}
 use Rattle.parcel_scale.proofs.Frames.{length_in_lem, needs_is, check_in_lem, body_in_lem, header_wrong, too_few, check_wrong, frame_right}
 use Rattle.parcel_scale.proofs.reading.read.Goals as goal
 
--- `parcel_scale::read` meets its contract: lent bytes judged 20, 21, 22, and then what their body says.
--- Why: length, body and check are those of the definition, by their places, and so are the tests.
 pub is_headed-requires : goal.is_headed-requires
 is_headed-requires c = search author.needs
 

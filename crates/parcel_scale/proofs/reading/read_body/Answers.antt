@@ -10,8 +10,6 @@ use Rattle.parcel_scale.specs.Reading.{read_code}
 use Rattle.parcel_scale.proofs.Frames.{empty_body, code_and_data}
 use Rattle.parcel_scale.proofs.reading.read_body.Goals as goal
 
--- `parcel_scale::read_body` meets its contract: what a body says, and 6 for an empty one.
--- Why: a body that is not empty is its code and the data behind it.
 pub returns-then-body-eq0 : goal.returns-then-body-eq0
 returns-then-body-eq0 c = sym (empty_body _ _ c.if-body-eq0.true)
 

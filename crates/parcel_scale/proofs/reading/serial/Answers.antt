@@ -9,8 +9,6 @@ use Rattle.parcel_scale.specs.Layouts.{row_in, row_of, widths, numbers_in, in_va
 use Rattle.parcel_scale.specs.Reading.{read_row, read_code}
 use Rattle.parcel_scale.proofs.reading.serial.Goals as goal
 
--- `parcel_scale::serial` meets its contract: what stands behind the code 50.
--- Why: its row has one field of four bytes, which may have any value.
 pub returns-then-data-ne4 : goal.returns-then-data-ne4
 unfolding read_code row_of row_in read_row widths numbers_in in_values
 returns-then-data-ne4 c = rw (ne_eqb _ _ c.if-data-ne4.true)

@@ -13,8 +13,6 @@ use Rattle.parcel_scale.specs.Reading.{read_row, read_code}
 use Rattle.parcel_scale.proofs.Rows.{weight_numbers, weight_within, weight_outside}
 use Rattle.parcel_scale.proofs.reading.weight.Goals as goal
 
--- `parcel_scale::weight` meets its contract: what stands behind the code 10.
--- Why: its row has three fields; the count may have any value, and the marks are tested as the row says.
 pub returns-then-data-ne6 : goal.returns-then-data-ne6
 unfolding read_code row_of row_in read_row widths
 returns-then-data-ne6 c = rw (ne_eqb _ _ c.if-data-ne6.true)

@@ -1,11 +1,9 @@
 -- `quay_line::phase_from` meets its contract: each number has its phase.
 -- Why: in an arm the number is the one that the arm names; in the last it is none of them.
-use borrow.Author.Tests.{ne_eqb}
+use Rattle.std.proofs.Common.{rules, tests}
 use Rattle.quay_line.specs.Places.{phase_from}
 use Rattle.quay_line.proofs.places.phase_from.Goals as goal
 
--- `quay_line::phase_from` meets its contract: each number has its phase.
--- Why: in an arm the number is the one that the arm names; in the last it is none of them.
 pub returns-in-0 : goal.returns-in-0
 unfolding phase_from
 returns-in-0 c = rw c.in-0.is
@@ -20,4 +18,4 @@ returns-in-2 c = rw c.in-2.is
 
 pub returns-in_default : goal.returns-in_default
 unfolding phase_from
-returns-in_default c = rw (ne_eqb _ _ c.in_default.rest.0.0.1, ne_eqb _ _ c.in_default.rest.0.1, ne_eqb _ _ c.in_default.rest.1)
+returns-in_default c = search (tests, rules)

@@ -1,11 +1,10 @@
 -- `weight::family_named` meets its promise: each number has the family that the table gives it, and any other number none.
 -- Why: in an arm the number is the one that the arm names; in the last it is none of them.
-use borrow.Author.Tests.{ne_eqb}
+use Rattle.std.proofs.Common.{arith}
+use Rattle.std.proofs.lemmas.Bool.Decides.{nat_tests}
 use Rattle.weight.specs.Families.{family_named, named_in}
 use Rattle.weight.proofs.families.family_named.Goals as goal
 
--- `weight::family_named` meets its promise: each number has the family that the table gives it, and any other number none.
--- Why: in an arm the number is the one that the arm names; in the last it is none of them.
 pub returns-in-0 : goal.returns-in-0
 unfolding family_named named_in
 returns-in-0 c = rw c.in-0.is
@@ -24,6 +23,4 @@ returns-in-3 c = rw c.in-3.is
 
 pub returns-in_default : goal.returns-in_default
 unfolding family_named named_in
-returns-in_default c =
-    let others = c.in_default.rest in
-    rw (ne_eqb _ _ others.0.0.0.1, ne_eqb _ _ others.0.0.1, ne_eqb _ _ others.0.1, ne_eqb _ _ others.1)
+returns-in_default c = grind (arith, nat_tests)

@@ -14,13 +14,6 @@ use Rattle.line.proofs.Joined.{step_few, step_length}
 use Rattle.line.proofs.Blocks.{sound_few, fed_sound, taken_is, next_turn, stop, at_end, standing, listens, unlent}
 use Rattle.line.proofs.places.Place.listen.Goals as goal
 
--- `line::Place::listen` meets its contract: a block is heard byte by byte, up to and with the first event or to its end.
--- Why: what the rest of the block will give the place as it stands is what the whole block gives the place handed in.
--- an arm for the other events was taken: it was not Nothing
-spoken : (event : Event) → OneOf (1 ∷ 2 ∷ []) (tag_of the_type event) → event ≡ Nothing → ⊥
-spoken event arm silent =
-    ⊎_elim (λ (e : ◌≡◌ {A = ℕ} 0 1). omega arith) (λ (e : ◌≡◌ {A = ℕ} 0 2). omega arith) (rw silent at arm)
-
 -- the place that the loop begins with gives what the place handed in gives
 whole : (reader : Reader) (block : List ℕ) {place : Place} → place ≡ sound_place reader.place → 0 < length block
     → fed_from 0 (standing place reader.body) block ≡ fed_from 0 reader block
@@ -68,7 +61,7 @@ returns-in-loop-used c =
     let step = c.step-moved.ensures in
     let byte = get_or block c.loop-used.used 0 in
     listens _ _ _ _ _ _ _ (sym c.size_of.ensures ∙ c.if-size_of-ne255.false)
-    (stop block reader c.loop-used.used (omega arith) (taken_is reader byte step) (spoken _ c.in_default.keys2)
+    (stop block reader c.loop-used.used (omega arith) (taken_is reader byte step) c.in_default.not-Nothing
     ∙ c.loop-used.invariant.3 ∙ whole (standing c.args.self c.args.body.now) block c.sound-place.ensures (omega arith))
 
 pub returns : goal.returns

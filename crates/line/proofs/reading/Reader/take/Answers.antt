@@ -5,9 +5,9 @@ use Rattle.line.proofs.Blocks.{sound_few, taken_is, taken_sound, soundly, takes}
 use Rattle.line.proofs.reading.Reader.take.Goals as goal
 
 pub step-moved-requires : goal.step-moved-requires
-step-moved-requires c = (rw c.sound.ensures (sound_few c.args.t1.place), search rules)
+step-moved-requires c = (rw c.sound.ensures (sound_few c.args.self.place), search rules)
 
 pub returns : goal.returns
 returns c =
     let step = rw c.sound.ensures at c.step-moved.ensures in
-    takes c.args.t1 c.args.byte (taken_is (soundly c.args.t1) c.args.byte step ∙ taken_sound c.args.t1 c.args.byte)
+    takes c.args.self c.args.byte (taken_is (soundly c.args.self) c.args.byte step ∙ taken_sound c.args.self c.args.byte)
