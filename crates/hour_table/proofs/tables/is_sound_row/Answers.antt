@@ -1,6 +1,6 @@
 -- `hour_table::is_sound_row` meets its contract: whether every cell of a day is sound.
 -- Why: the cells from the present hour on are sound exactly if all are, since those ahead of it were.
-use Prim.Native.Nat.{◌-◌, ◌≤◌, ◌<◌}
+use Prim.Native.Nat.{◌≤◌, ◌<◌}
 use mathlib.Core.Path.{◌∙◌, refl, sym}
 use lib.ListN.{length}
 use borrow.Author.Rules.{rules}
