@@ -63,7 +63,7 @@ def crates() -> dict[str, tuple[int, list[str]]]:
     for number, line in enumerate(lines_of(ROOT / 'crates.txt'), 1):
         if ':' in line and not line.startswith('#'):
             name, given = line.split(':')
-            found[name] = (number, given.split())
+            found[name.split()[0]] = (number, given.split())  # behind its name a crate may be called a static library
     return found
 
 

@@ -1,12 +1,11 @@
 -- `capture_walker::ahead_of_body` meets its contract: it ends, and the step from behind the bytes that it passed is the step from where it began.
 -- Why: each byte passed on the way starts no body, and the step from behind such a byte is the step from it.
-use Prim.Native.Nat.{ℕ, ◌+◌, ◌-◌}
+use Prim.Native.Nat.{◌+◌, ◌-◌}
 use mathlib.Core.Path.{◌≡◌, ◌∙◌, refl, sym, ap}
 use mathlib.Core.Bool.{Bool, false}
-use mathlib.Core.List.{List}
 use native.Mathlib.Omega.{arith}
 use native.Mathlib.Numerals.{add-one}
-use lib.ListN.{length, get_or}
+use lib.ListN.{get_or}
 use Rattle.capture_walker.specs.Scanning.{delimited_at, starts_body}
 use Rattle.capture_walker.proofs.Scan.{next_place}
 use Rattle.capture_walker.proofs.starting.ahead_of_body.Goals as goal

@@ -1,12 +1,7 @@
 -- `line::Place::listen` meets its contract: a block is heard byte by byte, up to and with the first event or to its end.
 -- Why: what the rest of the block will give the place as it stands is what the whole block gives the place handed in.
-use Rattle.std.proofs.Common.{◌≡◌, ℕ, ◌-◌, ◌<◌, List, [], ◌∷◌, length, get_or, sym, refl, ◌∙◌, ⊎_elim, arith}
-use types.Run.{OneOf}
-use denote.Enum.Declared.{tag_of}
+use Rattle.std.proofs.Common.{◌≡◌, ℕ, ◌<◌, List, length, get_or, sym, refl, ◌∙◌, arith}
 use Rattle.line.specs.declared.places.Place.{Place}
-use Rattle.line.specs.declared.places.Event.{Event}
-use Rattle.line.specs.contracts.places.Event.{the_type}
-use Rattle.line.specs.declared.places.Event.TheVariants.{Nothing}
 use Rattle.line.specs.declared.reading.Reader.{Reader}
 use Rattle.line.specs.Readers.{fed_from}
 use Rattle.line.specs.Steps.{sound_place}
