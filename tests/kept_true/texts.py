@@ -80,6 +80,8 @@ def section_of(crate: str) -> list[tuple[int, str]]:
 
 
 OF_LAWS = ('register', 'check_misses', 'crew_sheet', 'demands')  # crates that have laws in place of functions, and wrong programs of these
+COVERS = 'quay'  # the static library: each of its functions covers one of a library and says its clauses again, word for word
+OF_INPUT = ('blocks',)  # what an input gives nobody can say ahead, so there is no law of one answer
 
 
 def is_program(crate: str) -> bool:
