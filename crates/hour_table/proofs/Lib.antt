@@ -3,3 +3,4 @@ pub mod OneAnswer
 pub mod Poured
 pub mod Slots
 pub mod SoundTables
+pub mod TableField
