@@ -4,7 +4,7 @@ from pathlib import Path
 from typing import NamedTuple
 
 from definitions import definitions_in
-from texts import OF_LAWS, PROMISES, Finding, bare_lines, crates, files_of, is_program, once, section_of
+from texts import COVERS, OF_INPUT, OF_LAWS, PROMISES, Finding, bare_lines, crates, files_of, is_program, once, section_of
 
 
 class Row(NamedTuple):
@@ -37,6 +37,8 @@ def has_lemma(crate: str, name: str) -> bool:
 
 def law_of(crate: str, row: Row) -> list[Finding]:
     """The column 'one answer' names a law of the crate's own; the exported writers share one of `crossing`."""
+    if crate in OF_INPUT:
+        return []
     named = re.findall(r'`(\w+_one)`', row.cells[2])
     if len(named) != 1:
         return [Finding(PROMISES, row.line, f'`{row.name}` does not name one one-answer law')]
@@ -44,10 +46,32 @@ def law_of(crate: str, row: Row) -> list[Finding]:
     return [] if has_lemma(home, named[0]) else [Finding(PROMISES, row.line, f'`{home}` has no law `{named[0]}`')]
 
 
+def said_of(crate: str) -> dict[str, tuple[Path, int, str]]:
+    """Each public function of a crate with its parameters, its answer and its clauses, up to its body."""
+    found = {}
+    for name, (file, number) in public_functions(crate).items():
+        said = []
+        for line in bare_lines(file)[number - 1:]:
+            if line.strip() == '{':
+                break
+            said.append(line.strip())
+        found[name] = (file, number, ' '.join(said))
+    return found
+
+
+def covers() -> list[Finding]:
+    """Each export of the static library says of itself what the function that it covers says."""
+    known = {name: said for crate in crates() if crate.startswith('quay_') for name, (_, _, said) in said_of(crate).items()}
+    exported = said_of(COVERS)
+    found = [Finding(file, line, f'`{name}` does not say what the function that it covers says')
+             for name, (file, line, said) in exported.items() if known.get(name) != said]
+    return found + [Finding(PROMISES, 1, f'`{COVERS}` does not export `{name}`') for name in known if name.startswith('quay_') and name not in exported]
+
+
 def findings() -> list[Finding]:
-    found = []
+    found = covers()
     for crate in crates():
-        if is_program(crate) or crate in OF_LAWS:
+        if is_program(crate) or crate in OF_LAWS or crate == COVERS:
             continue
         rows = rows_of(crate)
         functions = public_functions(crate)

@@ -63,7 +63,7 @@ def crates() -> dict[str, tuple[int, list[str]]]:
     for number, line in enumerate(lines_of(ROOT / 'crates.txt'), 1):
         if ':' in line and not line.startswith('#'):
             name, given = line.split(':')
-            found[name] = (number, given.split())
+            found[name.split()[0]] = (number, given.split())  # behind its name a crate may be called a static library
     return found
 
 
@@ -80,6 +80,8 @@ def section_of(crate: str) -> list[tuple[int, str]]:
 
 
 OF_LAWS = ('register', 'check_misses', 'crew_sheet', 'demands')  # crates that have laws in place of functions, and wrong programs of these
+COVERS = 'quay'  # the static library: each of its functions covers one of a library and says its clauses again, word for word
+OF_INPUT = ('blocks',)  # what an input gives nobody can say ahead, so there is no law of one answer
 
 
 def is_program(crate: str) -> bool:

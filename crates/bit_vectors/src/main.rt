@@ -6,64 +6,71 @@
 
 #![tactic(auto)]
 
-ghost use Rattle.std.specs.Prelude.{◌≤◌};
+ghost use Rattle.std.specs.Prelude.{◌≤◌, IfOk};
 
 use bad_bit::{Finding, find};
-use libc::{STDIN_FILENO, STDOUT_FILENO};
+use blocks::read_full;
 use line::{BodyPlace, Event, Reader, WirePlace};
 use low_first::half;
 use refusal::{Refusal, number};
 use room::front;
+use std::io;
+use std::io::{Stdin, Stdout};
 use std::num::wrapping_add_u64;
 
 // The longest text.
 const LONGEST_GIVEN: usize = 4096;
 
-fn say(number: u64) {
-    io::write_all(STDOUT_FILENO, b" ");
-    io::print_decimal(STDOUT_FILENO, number);
+fn say(number: u64, out: Stdout) -> io::Result<()> {
+    print!(out; " {number}")
 }
 
 // A bit that is told has a word more than none.
-fn say_finding(finding: Finding) {
+fn say_finding(finding: Finding, out: Stdout) -> io::Result<()> {
     match finding {
-        Finding::Refused(why) => say(number(why) as u64),
+        Finding::Refused(why) => say(number(why) as u64, out),
         Finding::NoBit => {
-            say(0);
-            say(0)
+            say(0, out)?;
+            say(0, out)
         }
         Finding::Bit(place) => {
-            say(0);
-            say(1);
-            say(place.0 as u64)
+            say(0, out)?;
+            say(1, out)?;
+            say(place.0 as u64, out)
         }
     }
 }
 
 // A refusal of the line. After a wrong check the body that failed stands at the front of the lent bytes, and is handed on.
-fn hand_on(why: Refusal, wire: WirePlace, kept: BodyPlace, body: &[u8; 255]) -> u64 {
+fn hand_on(
+    why: Refusal,
+    wire: WirePlace,
+    kept: BodyPlace,
+    body: &[u8; 255],
+    out: Stdout,
+) -> io::Result<u64> {
     match why {
         Refusal::CheckWrong => {
-            say(wire.0);
-            say(kept.0 as u64);
+            say(wire.0, out)?;
+            say(kept.0 as u64, out)?;
             let all: &[u8] = body;
-            say_finding(find(front(all, kept.0)));
-            1
+            say_finding(find(front(all, kept.0)), out)?;
+            Ok(1)
         }
-        _ => 0,
+        _ => Ok(0),
     }
 }
 
 // What an event adds to the number of bodies that failed.
-fn hand_on_event(event: Event, body: &[u8; 255]) -> u64 {
+fn hand_on_event(event: Event, body: &[u8; 255], out: Stdout) -> io::Result<u64> {
     match event {
-        Event::Refused(why, wire, kept) => hand_on(why, wire, kept, body),
-        _ => 0,
+        Event::Refused(why, wire, kept) => hand_on(why, wire, kept, body, out),
+        _ => Ok(0),
     }
 }
 
 // A capture, heard from its start to its end.
-fn hear(capture: &[u8]) {
+fn hear(capture: &[u8], out: Stdout) -> io::Result<()> {
     let reader = Reader::new();
     let mut place = reader.place;
     let mut body = reader.body;
@@ -74,57 +81,57 @@ fn hear(capture: &[u8]) {
         let next = went.place;
         let event = went.event;
         place = next;
-        failed = wrapping_add_u64(failed, hand_on_event(event, &body));
+        failed = wrapping_add_u64(failed, hand_on_event(event, &body, out)?);
         at += went.used;
     }
-    say(failed)
+    say(failed, out)
 }
 
 // The functions, each under its number.
-fn tell(function: u8, text: &[u8]) {
+fn tell(function: u8, text: &[u8], out: Stdout) -> io::Result<()> {
     match function {
-        1 => say_finding(find(text)),
-        _ => hear(text),
+        1 => say_finding(find(text), out),
+        _ => hear(text, out),
     }
 }
 
-fn run_text(function: u8, text: &mut [u8]) -> bool {
-    io::read_full(STDIN_FILENO, text);
-    io::print_decimal(STDOUT_FILENO, function as u64);
-    tell(function, text);
-    io::write_all(STDOUT_FILENO, b"\n")
+fn run_text(function: u8, text: &mut [u8], mut input: Stdin, out: Stdout) -> io::Result<()> {
+    read_full(&mut input, text)?;
+    print!(out; "{function}")?;
+    tell(function, text, out)?;
+    print!(out; "\n")
 }
 
 // Two bytes of a length.
-fn take_length() -> usize
-    ensures { result ≤ 4096 }
+fn take_length(mut input: Stdin) -> io::Result<usize>
+    ensures { IfOk result (λ n. n ≤ 4096) }
 {
     let mut two = [0u8; 2];
-    io::read_full(STDIN_FILENO, &mut two);
+    read_full(&mut input, &mut two)?;
     let length = half(two[0], two[1]) as usize;
     if LONGEST_GIVEN < length {
-        return LONGEST_GIVEN;
+        return Ok(LONGEST_GIVEN);
     }
-    length
+    Ok(length)
 }
 
-// Runs one case. False at the end of the input, and if an answer could not be written.
-fn run_case() -> bool {
+// Runs one case. False at the end of the input.
+fn run_case(mut input: Stdin, out: Stdout) -> io::Result<bool> {
     let mut one = [0u8; 1];
-    if io::read_full(STDIN_FILENO, &mut one) == 0 {
-        return false;
+    if read_full(&mut input, &mut one)? == 0 {
+        return Ok(false);
     }
-    let length = take_length();
-    let mut space = io::buffer();
-    run_text(one[0], &mut space[0..length])
+    let length = take_length(input)?;
+    let mut space = [0u8; LONGEST_GIVEN];
+    run_text(one[0], &mut space[0..length], input, out)?;
+    Ok(true)
 }
 
-fn main() {
-    let mut turns = u64::MAX;
-    while turns > 0 {
-        turns -= 1;
-        if !run_case() {
-            turns = 0;
+fn main(rt: HostRuntime) -> io::Result<()> {
+    for _ in 0..u64::MAX {
+        if !run_case(rt.stdin(), rt.stdout())? {
+            break;
         }
     }
+    Ok(())
 }

@@ -130,7 +130,7 @@ clash e =
 module _ {block : List ℕ} {place : ℕ} {lent : List ℕ} where
   ends_there : {end : ℕ} {body : List ℕ} → OneStep block place lent → step_from block place lent ≡ said_end end body → (events (start_at block place) (drop place block) ≡ []) × (end ≡ end_from block place)
   ends_there (no_more left is none) e = (none, ap (λ (s : StepTaken). s.answer.place) (sym e ∙ is))
-  ends_there (one_more event behind left is on tells) e = absurd (clash (sym e ∙ is))
+  ends_there (one_more event behind left is on _) e = absurd (clash (sym e ∙ is))
 
   goes_on : {event : Event} {behind : ℕ} {body : List ℕ} → OneStep block place lent → step_from block place lent ≡ met event behind body
       → MovedOn block place (heard_as event body) behind × (events (start_at block place) (drop place block) ≡ heard_as event body ∷ events (start_at block behind) (drop behind block))

@@ -66,7 +66,7 @@ module _ (used : ℕ) (reader : Reader) (byte : ℕ) (block : List ℕ) where
         before = byte ∷ gave.before;
         byte = gave.byte;
         later = gave.later;
-        is = ap (λ (l : List ℕ). byte ∷ l) gave.is;
+        is = ap (λ (l : List ℕ). byte ∷ l) {y = gave.before ++ (gave.byte ∷ gave.later)} gave.is;
         far = ap (λ (f : Fed). f.used) same ∙ gave.far ∙ omega arith;
         event = ap (λ (f : Fed). f.event) same ∙ gave.event;
         stands = ap (λ (f : Fed). f.reader) same ∙ gave.stands;

@@ -9,7 +9,7 @@ use lib.ListN.{length, take, drop, length-drop, take-append-drop}
 use Rattle.line.specs.declared.reading.Reader.{Reader}
 use Rattle.line.specs.declared.reading.Fed.{Fed}
 use Rattle.line.specs.Listener.{Heard, heard_then}
-use Rattle.line.specs.Readers.{heard_as, fed, fed_lent, fresh_place}
+use Rattle.line.specs.Readers.{heard_as, taken, fed, fed_lent, fresh_place}
 use Rattle.line.proofs.Blocks.{feeds, listens}
 use Rattle.demands.specs.Reading.{after_bytes, heard_by}
 use Rattle.demands.specs.Wire.{wire_of}
@@ -23,7 +23,7 @@ use Rattle.demands.proofs.Reading.{every_block, heard_in_two, heard_fresh}
 left_in_two : (reader : Reader) (first second : List ℕ) → after_bytes reader (first ++ second) ≡ after_bytes (after_bytes reader first) second
 unfolding after_bytes
 left_in_two reader [] second = refl
-left_in_two reader (byte ∷ first) second = left_in_two _ first second
+left_in_two reader (byte ∷ first) second = left_in_two (taken reader byte).reader first second
 
 module _ (reader : Reader) (block rest : List ℕ) (answer : Fed) (is : answer ≡ fed reader block) where
   turn_left : after_bytes reader block ≡ after_bytes answer.reader (drop answer.used block)

@@ -128,7 +128,7 @@ sign_whole false = (refl, tt)
 hyphens_whole : Whole (spelt "------")
 hyphens_whole = (refl, (refl, (refl, (refl, (refl, (refl, tt))))))
 
-shown_whole : (over : Bool) (number : ℕ) → Whole (cond over (spelt "------") (sixDigits number))
+shown_whole : (over : Bool) (number : ℕ) → Whole (cond over (spelt "------") (six_digits number))
 shown_whole true number = hyphens_whole
 shown_whole false number = digits_whole 10 6 number
 

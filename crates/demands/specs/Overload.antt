@@ -60,7 +60,7 @@ abbrev pub HyphensForDigits : Type 0
 HyphensForDigits =
     (reading : Reading) → reading.overload ≡ true → (number : ℕ) (load : Load) (address : Address)
     → line_of number (entry_as.Weight load address reading)
-    ≡ line (decimal number) (ahead load address (fields_with (spelt "------") (without reading) ++ modeFields reading))
+    ≡ line (decimal number) (ahead load address (fields_with (spelt "------") (without reading) ++ mode_fields reading))
 
 -- ---- the table counts weights "without overload": it never asks an overloaded value, and so meets no 24
 

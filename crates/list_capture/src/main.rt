@@ -6,11 +6,17 @@
 
 #![tactic(auto)]
 
+mod outputs;
 mod page;
 mod telling;
 
-use libc::{STDERR_FILENO, STDIN_FILENO};
+use outputs::Outputs;
 use page::flush;
+use std::env::FillError;
+use std::fs::File;
+use std::io::Read;
+use std::rt::{Env, Files};
+use std::str;
 use telling::{Tally, list_block, tell_total};
 use weight::{Family, FamilyNamed};
 
@@ -39,85 +45,96 @@ fn went_on(tally: Tally) -> Run {
     }
 }
 
-fn shown(tally: Tally, page: &mut [u8]) -> Tally {
+fn shown(tally: Tally, page: &[u8], out: Outputs) -> Tally {
     let mut next = tally;
     let place = next.page;
-    let flushed = flush(place, page);
+    let flushed = flush(place, page, out);
     next.page = flushed;
     next
 }
 
 // Lists what a read brought, to its end. A read that came back short shows all there is, since the line may be silent for long.
-fn list_read(family: Family, tally: Tally, heard: &[u8], is_short: bool, page: &mut [u8]) -> Run {
-    let listed = list_block(family, tally, heard, page);
+fn list_read(
+    family: Family,
+    tally: Tally,
+    heard: &[u8],
+    is_short: bool,
+    page: &mut [u8],
+    out: Outputs,
+) -> Run {
+    let listed = list_block(family, tally, heard, page, out);
     if is_short {
-        return went_on(shown(listed, page));
+        return went_on(shown(listed, page, out));
     }
     went_on(listed)
 }
 
 // One read of the capture. No more reads follow if the capture ended or could not be read.
 fn list_some(
-    capture: i32,
-    name: &[u8],
+    capture: &mut impl Read,
+    name: &str,
     family: Family,
     tally: Tally,
     block: &mut [u8],
     page: &mut [u8],
+    out: Outputs,
 ) -> Run {
-    let got = libc::read(capture, block);
-    if got < 0 {
-        os::fail(name);
-        return ended(tally, false);
-    }
-    let count = io::count(got, block);
+    let count = match capture.read(block) {
+        Ok(count) => count,
+        Err(error) => {
+            out.fail(name, error);
+            return ended(tally, false);
+        }
+    };
     if count == 0 {
         return ended(tally, true);
     }
     let is_short = count < block.len();
-    list_read(family, tally, &block[..count], is_short, page)
+    list_read(family, tally, &block[..count], is_short, page, out)
 }
 
-// A proved loop has to end, but nothing says that a capture ends. So the turns are counted down from a number that no run uses up.
-fn list_all(capture: i32, name: &[u8], family: Family, block: &mut [u8], page: &mut [u8]) -> Run {
+// A proved loop has to end, but nothing says that a capture ends. So the turns are counted up to a number that no run uses up.
+fn list_all(
+    capture: &mut impl Read,
+    name: &str,
+    family: Family,
+    block: &mut [u8],
+    page: &mut [u8],
+    out: Outputs,
+) -> Run {
     let mut run = Run {
         tally: telling::fresh(),
         more: true,
         whole: true,
     };
-    let mut turns = u64::MAX;
-    while turns > 0 {
-        turns -= 1;
+    for _ in 0..u64::MAX {
         let tally = run.tally;
-        let next = list_some(capture, name, family, tally, block, page);
+        let next = list_some(capture, name, family, tally, block, page, out);
         run = next;
         if !run.more {
-            turns = 0;
+            break;
         }
     }
     run
 }
 
-fn list(capture: i32, name: &[u8], family: Family) {
-    let mut block = io::large_buffer();
-    let mut page = io::large_buffer();
-    let run = list_all(capture, name, family, &mut block, &mut page);
+fn list(capture: &mut impl Read, name: &str, family: Family, out: Outputs) {
+    let mut block = [0u8; 65536];
+    let mut page = [0u8; 65536];
+    let run = list_all(capture, name, family, &mut block, &mut page, out);
     let tally = run.tally;
     if run.whole {
-        tell_total(tally, &mut page);
+        tell_total(tally, &mut page, out);
         return;
     }
-    flush(tally.page, &mut page);
+    flush(tally.page, &page, out);
 }
 
-fn list_file(path: &[u8], family: Family) {
-    let capture = os::open_read(path);
-    if capture < 0 {
-        os::fail(path);
-        return;
+fn list_file(rt: &impl Files, path: &str, family: Family, out: Outputs) {
+    match File::open(rt, path) {
+        Ok(mut capture) => list(&mut capture, path, family, out),
+        Err(error) => out.fail(path, error),
     }
-    list(capture, path, family);
-    libc::close(capture);
 }
 
 // A family by the number of its document: three digits. No capture is of the plain family, which is that of old records.
@@ -137,35 +154,28 @@ fn family_named(name: &[u8]) -> FamilyNamed {
 }
 
 // The capture of a family: the file that the second argument names, or standard input.
-fn list_named(family: Family) {
-    if os::arg_count() < 3 {
-        list(STDIN_FILENO, b"standard input", family);
-        return;
+fn list_named(rt: &(impl Env + Files), input: &mut impl Read, family: Family, out: Outputs) {
+    let mut path = [0u8; 4096];
+    match rt.arg(2, &mut path) {
+        Ok(length) => match str::from_utf8(&path[..length]) {
+            Ok(path) => list_file(rt, path, family, out),
+            Err(_) => out.say("the capture's name is not UTF-8"),
+        },
+        Err(FillError::NotPresent) => list(input, "standard input", family, out),
+        Err(FillError::TooLong) => out.say("the capture's name: File name too long"),
     }
-    let mut path = io::buffer();
-    let length = os::arg(2, &mut path);
-    if os::errno() != 0 {
-        os::fail(b"the capture's name");
-        return;
-    }
-    list_file(&path[..length], family);
 }
 
-fn main() {
-    if os::arg_count() < 2 {
-        list(STDIN_FILENO, b"standard input", Family::Of002);
-        return;
-    }
-    let mut name = io::buffer();
-    let length = os::arg(1, &mut name);
-    if os::errno() != 0 {
-        os::fail(b"the family");
-        return;
-    }
-    match family_named(&name[..length]) {
-        FamilyNamed::Family(family) => list_named(family),
-        FamilyNamed::Unknown => {
-            io::write_all(STDERR_FILENO, b"the family is 000, 001 or 002\n");
-        }
+fn main(rt: HostRuntime) {
+    let out = Outputs::new(rt.stdout(), rt.stderr(), rt.alloc());
+    let mut input = rt.stdin();
+    let mut name = [0u8; 4096];
+    match rt.arg(1, &mut name) {
+        Ok(length) => match family_named(&name[..length]) {
+            FamilyNamed::Family(family) => list_named(&rt, &mut input, family, out),
+            FamilyNamed::Unknown => out.say("the family is 000, 001 or 002"),
+        },
+        Err(FillError::NotPresent) => list(&mut input, "standard input", Family::Of002, out),
+        Err(FillError::TooLong) => out.say("the family: File name too long"),
     }
 }

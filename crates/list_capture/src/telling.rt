@@ -1,7 +1,7 @@
 // What was heard, told line by line, and counted.
+use crate::outputs::Outputs;
 use crate::page::{Page, cut, flush, front, put};
 use entries::{Entry, heard_without_check};
-use libc::STDERR_FILENO;
 use line::Reader;
 use listing::{write_line, write_total};
 use refusal::Verdict;
@@ -55,24 +55,30 @@ fn counted(counts: Counts, entry: Entry) -> Counts {
 }
 
 // A line as it was written onto the page. A refused line is not passed over: the listing ends there, without a total.
-fn told(written: Written, text: &[u8], page: Page, room: &mut [u8]) -> Page {
+fn told(written: Written, text: &[u8], page: Page, room: &mut [u8], out: Outputs) -> Page {
     let verdict = written.verdict;
     match verdict {
-        Verdict::Good => put(front(text, written.length), page, room),
-        Verdict::Refused(_) => cut(page, room),
+        Verdict::Good => put(front(text, written.length), page, room, out),
+        Verdict::Refused(_) => cut(page, room, out),
     }
 }
 
 // A line of the listing onto the page.
-fn tell(number: u64, entry: Entry, page: Page, room: &mut [u8]) -> Page {
+fn tell(number: u64, entry: Entry, page: Page, room: &mut [u8], out: Outputs) -> Page {
     let mut line = [0u8; LONGEST_LINE];
     let text: &mut [u8] = &mut line;
     let written = write_line(number, entry, text);
-    told(written, text, page, room)
+    told(written, text, page, room, out)
 }
 
 // Takes a block of a line of a family to its end, event by event. The reader is taken apart once.
-pub(crate) fn list_block(family: Family, tally: Tally, block: &[u8], room: &mut [u8]) -> Tally {
+pub(crate) fn list_block(
+    family: Family,
+    tally: Tally,
+    block: &[u8],
+    room: &mut [u8],
+    out: Outputs,
+) -> Tally {
     let mut reader = tally.reader;
     let mut place = reader.place;
     let mut page = tally.page;
@@ -90,7 +96,7 @@ pub(crate) fn list_block(family: Family, tally: Tally, block: &[u8], room: &mut 
         let event = went.event;
         let entry = heard_without_check(family, true, event, &reader.body);
         counts = counted(counts, entry);
-        page = tell(counts.lines, entry, page, room);
+        page = tell(counts.lines, entry, page, room, out);
     }
     reader.place = place;
     Tally {
@@ -112,12 +118,12 @@ fn is_unheard(tally: Tally) -> bool {
 
 // Writes the last line, and all that is still on the page. Bytes without a frame are no failure, but they may be no capture. So a note says
 // it, in words that `bin/quay` knows.
-pub(crate) fn tell_total(tally: Tally, room: &mut [u8]) {
+pub(crate) fn tell_total(tally: Tally, room: &mut [u8], out: Outputs) {
     let mut line = [0u8; LONGEST_LINE];
     let text: &mut [u8] = &mut line;
     let written = write_total(tally.lines, tally.weights, tally.refused, text);
-    let page = flush(told(written, text, tally.page, room), room);
+    let page = flush(told(written, text, tally.page, room, out), room, out);
     if page.whole && is_unheard(tally) {
-        io::write_all(STDERR_FILENO, b"bytes came, and no frame was among them\n");
+        out.say("bytes came, and no frame was among them");
     }
 }

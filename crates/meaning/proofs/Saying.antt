@@ -1,10 +1,8 @@
--- Shown: a message whose constructor is not that of a weight says none; one that says a weight carries its data's four bytes and their reading.
+-- Shown: only the constructor of a weight says one; a message that says a weight carries its data's four bytes and their reading.
 -- Why: case by case; only the row of a weight says one, and it says what was read.
 use Prim.Native.Nat.{ℕ}
 use mathlib.Core.Path.{◌≡◌, refl, ap}
-use mathlib.Core.List.{List, [], ◌∷◌}
-use types.Run.{OneOf, miss}
-use denote.Enum.Declared.{tag_of}
+use mathlib.Core.List.{List}
 use Rattle.weight.specs.declared.families.Family.{Family}
 use Rattle.weight.specs.declared.Read.{Read}
 use Rattle.weight.specs.declared.Read.TheVariants as read_kind
@@ -18,24 +16,6 @@ use Rattle.meaning.specs.declared.meaning.What.TheVariants as says
 use Rattle.meaning.specs.declared.meaning.WeightOrNot.TheVariants as said_as
 use Rattle.meaning.specs.Meaning.{weighed, meaning}
 use Rattle.meaning.specs.Weights.{weight_said}
-use Rattle.meaning.specs.contracts.meaning.What.{the_type}
-
--- the constructors that are no weight
-abbrev others : List ℕ
-others = 0 ∷ 1 ∷ 2 ∷ 3 ∷ 5 ∷ 6 ∷ 7 ∷ 8 ∷ 9 ∷ 10 ∷ []
-
-pub no_weight : (what : What) → OneOf others (tag_of the_type what) → said_as.NoWeight ≡ weight_said what
-no_weight says.Nothing other = refl
-no_weight (says.Serial serial) other = refl
-no_weight (says.Number number) other = refl
-no_weight (says.Status status) other = refl
-no_weight (says.Weight said) other = absurd (miss others 4 tt other)
-no_weight (says.Inputs bits on) other = refl
-no_weight (says.Outputs bits) other = refl
-no_weight (says.Text number from to) other = refl
-no_weight (says.Event event from to) other = refl
-no_weight (says.Converter value) other = refl
-no_weight (says.Error error) other = refl
 
 -- the view of a weight is of a weight alone
 pub says_that : (what : What) (said : SaidWeight) → weight_said what ≡ said_as.Weight said → what ≡ says.Weight said

@@ -10,8 +10,12 @@ mod hearing;
 mod logs;
 mod tally;
 
+use blocks::read_full;
 use check_byte::feed_all;
-use libc::{STDIN_FILENO, STDOUT_FILENO};
+use std::env::FillError;
+use std::io;
+use std::io::Read;
+use std::rt::Env;
 use tally::{Counts, Tally, with_counts};
 
 #[derive(Clone, Copy)]
@@ -66,53 +70,47 @@ fn measure(work: Work, tally: Tally, block: &[u8], page: &mut [u8]) -> Tally {
     }
 }
 
-// Takes standard input to its end, as much at a time as a block holds. A proved loop has to end, but nothing says that an input ends. So the
-// turns are counted down from a number that no run uses up.
-fn measure_all(work: Work, block: &mut [u8], page: &mut [u8]) -> Counts {
+// Takes an input to its end, as much at a time as a block holds. A proved loop has to end, but nothing says that an input ends. So the
+// turns are counted up to a number that no run uses up.
+fn measure_all(
+    work: Work,
+    input: &mut impl Read,
+    block: &mut [u8],
+    page: &mut [u8],
+) -> io::Result<Counts> {
     let mut tally = tally::fresh();
-    let mut turns = u64::MAX;
-    while turns > 0 {
-        turns -= 1;
-        let count = io::read_full(STDIN_FILENO, block);
+    for _ in 0..u64::MAX {
+        let count = read_full(input, block)?;
         if count == 0 {
-            turns = 0;
-        } else {
-            let next = measure(work, tally, &block[..count], page);
-            tally = next;
+            break;
         }
+        tally = measure(work, tally, &block[..count], page);
     }
-    tally.counts
+    Ok(tally.counts)
 }
 
-fn tell(word: &[u8], number: u64) {
-    io::write_all(STDOUT_FILENO, word);
-    io::print_decimal(STDOUT_FILENO, number);
-}
-
-fn run(work: Work) {
+fn run(work: Work, input: &mut impl Read) -> io::Result<Counts> {
     let mut block = [0u8; tally::BLOCK];
     let mut page = [0u8; tally::BLOCK];
-    let counts = measure_all(work, &mut block, &mut page);
-    tell(b"good ", counts.good);
-    tell(b" refused ", counts.refused);
-    tell(b" sum ", counts.sum);
-    io::write_all(STDOUT_FILENO, b"\n");
+    measure_all(work, input, &mut block, &mut page)
 }
 
-fn main() {
-    if os::arg_count() < 2 {
-        run(Work::Block);
-        return;
+// The work that the argument names.
+fn work_named(rt: &impl Env) -> Work {
+    let mut word = [0u8; 4096];
+    match rt.arg(1, &mut word) {
+        Ok(_) => work_of(word[0], word[1]),
+        Err(FillError::NotPresent) => Work::Block,
+        Err(FillError::TooLong) => Work::Unknown,
     }
-    let mut word = io::buffer();
-    os::arg(1, &mut word);
-    let work = work_of(word[0], word[1]);
+}
+
+fn main(rt: HostRuntime) -> io::Result<()> {
+    let work = work_named(&rt);
     if let Work::Unknown = work {
-        io::write_all(
-            libc::STDERR_FILENO,
-            b"meter: the work is one of check, byte, block, message, record\n",
-        );
-        return;
+        return eprintln!(rt; "meter: the work is one of check, byte, block, message, record");
     }
-    run(work);
+    let counts = run(work, &mut rt.stdin())?;
+    let Counts { good, refused, sum } = counts;
+    println!(rt; "good {good} refused {refused} sum {sum}")
 }

@@ -4,10 +4,12 @@
 
 #![tactic(auto)]
 
-use libc::{STDIN_FILENO, STDOUT_FILENO};
+use blocks::read_full;
 use low_first::word_of;
 use parcel_scale::{Parcel, ParcelRead, ParcelWeight, read};
 use refusal::number;
+use std::io;
+use std::io::Read;
 use std::num::wrapping_add_u64;
 
 const PIECE: usize = 14;
@@ -72,37 +74,26 @@ fn read_pieces(told_before: Told, block: &[u8]) -> Told {
     told
 }
 
-// A proved loop has to end, but nothing says that an input ends. So the turns are counted down from a number that no run uses up.
-fn read_all(block: &mut [u8]) -> Told {
+// A proved loop has to end, but nothing says that an input ends. So the turns are counted up to a number that no run uses up.
+fn read_all(input: &mut impl Read, block: &mut [u8]) -> io::Result<Told> {
     let mut told = Told {
         good: 0,
         refused: 0,
         sum: 0,
     };
-    let mut turns = u64::MAX;
-    while turns > 0 {
-        turns -= 1;
-        let count = io::read_full(STDIN_FILENO, block);
+    for _ in 0..u64::MAX {
+        let count = read_full(input, block)?;
         if count == 0 {
-            turns = 0;
-        } else {
-            let next = read_pieces(told, &block[..count]);
-            told = next;
+            break;
         }
+        told = read_pieces(told, &block[..count]);
     }
-    told
+    Ok(told)
 }
 
-fn say(word: &[u8], number: u64) {
-    io::write_all(STDOUT_FILENO, word);
-    io::print_decimal(STDOUT_FILENO, number);
-}
-
-fn main() {
+fn main(rt: HostRuntime) -> io::Result<()> {
     let mut block = [0u8; BLOCK];
-    let told = read_all(&mut block);
-    say(b"good ", told.good);
-    say(b" refused ", told.refused);
-    say(b" sum ", told.sum);
-    io::write_all(STDOUT_FILENO, b"\n");
+    let told = read_all(&mut rt.stdin(), &mut block)?;
+    let Told { good, refused, sum } = told;
+    println!(rt; "good {good} refused {refused} sum {sum}")
 }

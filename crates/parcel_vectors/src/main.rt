@@ -9,47 +9,49 @@
 
 mod words;
 
-ghost use Rattle.std.specs.Prelude.{◌≤◌};
+ghost use Rattle.std.specs.Prelude.{◌≤◌, IfOk};
 
-use libc::{STDIN_FILENO, STDOUT_FILENO};
+use blocks::read_full;
 use low_first::{half, signed, word};
 use parcel_check::check_of;
 use parcel_scale::{Parcel, ParcelWeight};
+use std::io;
+use std::io::{Stdin, Stdout};
 use words::{say, say_parcel_read, say_value, say_written};
 
 // The longest text, and the longest room.
 const LONGEST_GIVEN: usize = 4096;
 
 // Two bytes of a length.
-fn take_length() -> usize
-    ensures { result ≤ 4096 }
+fn take_length(mut input: Stdin) -> io::Result<usize>
+    ensures { IfOk result (λ n. n ≤ 4096) }
 {
     let mut two = [0u8; 2];
-    io::read_full(STDIN_FILENO, &mut two);
+    read_full(&mut input, &mut two)?;
     let length = half(two[0], two[1]) as usize;
     if LONGEST_GIVEN < length {
-        return LONGEST_GIVEN;
+        return Ok(LONGEST_GIVEN);
     }
-    length
+    Ok(length)
 }
 
 // Four bytes of the count, division, stable.
-fn take_weight() -> ParcelWeight {
+fn take_weight(mut input: Stdin) -> io::Result<ParcelWeight> {
     let mut six = [0u8; 6];
-    io::read_full(STDIN_FILENO, &mut six);
-    ParcelWeight {
+    read_full(&mut input, &mut six)?;
+    Ok(ParcelWeight {
         count: signed(word(six[0], six[1], six[2], six[3])),
         division: six[4],
         stable: six[5],
-    }
+    })
 }
 
 // One byte for the message, four of a number, division, stable. A message takes what it has.
-fn take_parcel() -> Parcel {
+fn take_parcel(mut input: Stdin) -> io::Result<Parcel> {
     let mut seven = [0u8; 7];
-    io::read_full(STDIN_FILENO, &mut seven);
+    read_full(&mut input, &mut seven)?;
     let number = word(seven[1], seven[2], seven[3], seven[4]);
-    match seven[0] {
+    Ok(match seven[0] {
         0 => Parcel::GetWeight,
         1 => Parcel::SetTare(signed(number)),
         2 => Parcel::GetDeviceId,
@@ -61,56 +63,56 @@ fn take_parcel() -> Parcel {
         4 => Parcel::AckCommand,
         5 => Parcel::AckDeviceId(number),
         _ => Parcel::Nack,
-    }
+    })
 }
 
 // A write into a room as it is lent, and what it leaves there.
-fn tell_written(room: &mut [u8]) {
-    io::read_full(STDIN_FILENO, room);
-    let written = parcel_scale::write(take_parcel(), room);
-    say_written(written, room)
+fn tell_written(room: &mut [u8], mut input: Stdin, out: Stdout) -> io::Result<()> {
+    read_full(&mut input, room)?;
+    let written = parcel_scale::write(take_parcel(input)?, room);
+    say_written(written, room, out)
 }
 
-fn lend() {
-    let length = take_length();
-    let mut space = io::buffer();
-    tell_written(&mut space[0..length])
+fn lend(input: Stdin, out: Stdout) -> io::Result<()> {
+    let length = take_length(input)?;
+    let mut space = [0u8; LONGEST_GIVEN];
+    tell_written(&mut space[0..length], input, out)
 }
 
 // The functions, each under its number.
-fn tell(function: u8, text: &[u8]) {
+fn tell(function: u8, text: &[u8], input: Stdin, out: Stdout) -> io::Result<()> {
     match function {
-        1 => say(check_of(text) as u64),
-        2 => say_parcel_read(parcel_scale::read(text)),
-        3 => say_value(parcel_scale::value_of(take_weight())),
-        _ => lend(),
+        1 => say(check_of(text) as u64, out),
+        2 => say_parcel_read(parcel_scale::read(text), out),
+        3 => say_value(parcel_scale::value_of(take_weight(input)?), out),
+        _ => lend(input, out),
     }
 }
 
-fn run_text(function: u8, text: &mut [u8]) -> bool {
-    io::read_full(STDIN_FILENO, text);
-    io::print_decimal(STDOUT_FILENO, function as u64);
-    tell(function, text);
-    io::write_all(STDOUT_FILENO, b"\n")
+fn run_text(function: u8, text: &mut [u8], mut input: Stdin, out: Stdout) -> io::Result<()> {
+    read_full(&mut input, text)?;
+    print!(out; "{function}")?;
+    tell(function, text, input, out)?;
+    print!(out; "\n")
 }
 
-// Runs one case. False at the end of the input, and if an answer could not be written.
-fn run_case() -> bool {
+// Runs one case. False at the end of the input.
+fn run_case(mut input: Stdin, out: Stdout) -> io::Result<bool> {
     let mut one = [0u8; 1];
-    if io::read_full(STDIN_FILENO, &mut one) == 0 {
-        return false;
+    if read_full(&mut input, &mut one)? == 0 {
+        return Ok(false);
     }
-    let length = take_length();
-    let mut space = io::buffer();
-    run_text(one[0], &mut space[0..length])
+    let length = take_length(input)?;
+    let mut space = [0u8; LONGEST_GIVEN];
+    run_text(one[0], &mut space[0..length], input, out)?;
+    Ok(true)
 }
 
-fn main() {
-    let mut turns = u64::MAX;
-    while turns > 0 {
-        turns -= 1;
-        if !run_case() {
-            turns = 0;
+fn main(rt: HostRuntime) -> io::Result<()> {
+    for _ in 0..u64::MAX {
+        if !run_case(rt.stdin(), rt.stdout())? {
+            break;
         }
     }
+    Ok(())
 }

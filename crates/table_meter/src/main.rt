@@ -3,10 +3,12 @@
 
 #![tactic(auto)]
 
+use blocks::read_full;
 use hour_cell::Cell;
 use hour_table::{empty_table, fill, table_of};
-use libc::{STDIN_FILENO, STDOUT_FILENO};
 use refusal::Verdict;
+use std::io;
+use std::io::Read;
 use std::num::wrapping_add_u64;
 
 const BLOCK: usize = 56_000;
@@ -50,43 +52,32 @@ fn sum_of(table: [[Cell; 24]; 7]) -> u64 {
     sum
 }
 
-// A proved loop has to end, but nothing says that an input ends. So the turns are counted down from a number that no run uses up.
-fn fill_all(block: &mut [u8]) -> Told {
+// A proved loop has to end, but nothing says that an input ends. So the turns are counted up to a number that no run uses up.
+fn fill_all(input: &mut impl Read, block: &mut [u8]) -> io::Result<Told> {
     let mut table = empty_table();
     let mut good = 0u64;
     let mut stopped = 0u64;
-    let mut turns = u64::MAX;
-    while turns > 0 {
-        turns -= 1;
-        let count = io::read_full(STDIN_FILENO, block);
+    for _ in 0..u64::MAX {
+        let count = read_full(input, block)?;
         if count == 0 {
-            turns = 0;
-        } else {
-            let filled = fill(&block[..count], table);
-            let verdict = filled.verdict;
-            good = wrapping_add_u64(good, filled.records as u64);
-            stopped = wrapping_add_u64(stopped, stops(verdict));
-            let next = table_of(filled);
-            table = next;
+            break;
         }
+        let filled = fill(&block[..count], table);
+        let verdict = filled.verdict;
+        good = wrapping_add_u64(good, filled.records as u64);
+        stopped = wrapping_add_u64(stopped, stops(verdict));
+        table = table_of(filled);
     }
-    Told {
-        good: good,
-        stopped: stopped,
+    Ok(Told {
+        good,
+        stopped,
         sum: sum_of(table),
-    }
+    })
 }
 
-fn say(word: &[u8], number: u64) {
-    io::write_all(STDOUT_FILENO, word);
-    io::print_decimal(STDOUT_FILENO, number);
-}
-
-fn main() {
+fn main(rt: HostRuntime) -> io::Result<()> {
     let mut block = [0u8; BLOCK];
-    let told = fill_all(&mut block);
-    say(b"good ", told.good);
-    say(b" refused ", told.stopped);
-    say(b" sum ", told.sum);
-    io::write_all(STDOUT_FILENO, b"\n");
+    let told = fill_all(&mut rt.stdin(), &mut block)?;
+    let Told { good, stopped, sum } = told;
+    println!(rt; "good {good} refused {stopped} sum {sum}")
 }

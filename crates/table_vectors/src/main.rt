@@ -8,28 +8,30 @@
 mod given;
 mod words;
 
-ghost use Rattle.std.specs.Prelude.{◌≤◌};
+ghost use Rattle.std.specs.Prelude.{◌≤◌, IfOk};
 
+use blocks::read_full;
 use given::{take_cell, take_half, take_long, take_record, take_signed, take_table};
 use hour_cell::{Added, Cell, CountsAs, add_refused, add_weight, counts_as, is_sound, slot_of};
 use hour_mean::mean_of;
 use hour_table::{enter, fill};
-use libc::{STDIN_FILENO, STDOUT_FILENO};
 use records::Record;
 use refusal::Refusal;
+use std::io;
+use std::io::{Stdin, Stdout};
 use words::{say_added, say_filled, say_mean, say_slot, say_truth};
 
 // The longest text.
 const LONGEST_GIVEN: usize = 4096;
 
-fn take_length() -> usize
-    ensures { result ≤ 4096 }
+fn take_length(input: Stdin) -> io::Result<usize>
+    ensures { IfOk result (λ n. n ≤ 4096) }
 {
-    let length = take_half() as usize;
+    let length = take_half(input)? as usize;
     if LONGEST_GIVEN < length {
-        return LONGEST_GIVEN;
+        return Ok(LONGEST_GIVEN);
     }
-    length
+    Ok(length)
 }
 
 // One record into one cell, as `enter` does it with the cell of its slot.
@@ -46,59 +48,59 @@ fn added(item: Record, cell: Cell) -> Added {
 }
 
 // A record or a value stands ahead of its cell or table, as it is handed in.
-fn tell_added() {
-    let item = take_record();
-    say_added(added(item, take_cell()))
+fn tell_added(input: Stdin, out: Stdout) -> io::Result<()> {
+    let item = take_record(input)?;
+    say_added(added(item, take_cell(input)?), out)
 }
 
-fn tell_add_weight() {
-    let tenths = take_signed();
-    say_added(add_weight(tenths, take_cell()))
+fn tell_add_weight(input: Stdin, out: Stdout) -> io::Result<()> {
+    let tenths = take_signed(input)?;
+    say_added(add_weight(tenths, take_cell(input)?), out)
 }
 
-fn tell_enter() {
-    let item = take_record();
-    say_filled(enter(item, take_table()))
+fn tell_enter(input: Stdin, out: Stdout) -> io::Result<()> {
+    let item = take_record(input)?;
+    say_filled(enter(item, take_table(input)?), out)
 }
 
 // The functions, each under its number.
-fn tell(function: u8, text: &[u8]) {
+fn tell(function: u8, text: &[u8], input: Stdin, out: Stdout) -> io::Result<()> {
     match function {
-        1 => say_slot(slot_of(take_long())),
-        2 => say_truth(is_sound(take_cell())),
-        3 => tell_added(),
-        4 => tell_enter(),
-        5 => say_filled(fill(text, take_table())),
-        6 => say_mean(mean_of(take_cell())),
-        7 => tell_add_weight(),
-        _ => say_added(add_refused(take_cell())),
+        1 => say_slot(slot_of(take_long(input)?), out),
+        2 => say_truth(is_sound(take_cell(input)?), out),
+        3 => tell_added(input, out),
+        4 => tell_enter(input, out),
+        5 => say_filled(fill(text, take_table(input)?), out),
+        6 => say_mean(mean_of(take_cell(input)?), out),
+        7 => tell_add_weight(input, out),
+        _ => say_added(add_refused(take_cell(input)?), out),
     }
 }
 
-fn run_text(function: u8, text: &mut [u8]) -> bool {
-    io::read_full(STDIN_FILENO, text);
-    io::print_decimal(STDOUT_FILENO, function as u64);
-    tell(function, text);
-    io::write_all(STDOUT_FILENO, b"\n")
+fn run_text(function: u8, text: &mut [u8], mut input: Stdin, out: Stdout) -> io::Result<()> {
+    read_full(&mut input, text)?;
+    print!(out; "{function}")?;
+    tell(function, text, input, out)?;
+    print!(out; "\n")
 }
 
-// Runs one case. False at the end of the input, and if an answer could not be written.
-fn run_case() -> bool {
+// Runs one case. False at the end of the input.
+fn run_case(mut input: Stdin, out: Stdout) -> io::Result<bool> {
     let mut one = [0u8; 1];
-    if io::read_full(STDIN_FILENO, &mut one) == 0 {
-        return false;
+    if read_full(&mut input, &mut one)? == 0 {
+        return Ok(false);
     }
-    let length = take_length();
-    let mut space = io::buffer();
-    run_text(one[0], &mut space[0..length])
+    let length = take_length(input)?;
+    let mut space = [0u8; LONGEST_GIVEN];
+    run_text(one[0], &mut space[0..length], input, out)?;
+    Ok(true)
 }
 
-fn main() {
-    let mut turns = u64::MAX;
-    while turns > 0 {
-        turns -= 1;
-        if !run_case() {
-            turns = 0;
+fn main(rt: HostRuntime) -> io::Result<()> {
+    for _ in 0..u64::MAX {
+        if !run_case(rt.stdin(), rt.stdout())? {
+            break;
         }
     }
+    Ok(())
 }

@@ -2,20 +2,20 @@
 use hour_cell::{Added, Cell, Slot};
 use hour_mean::{Fraction, Mean};
 use hour_table::{Filled, table_of};
-use libc::STDOUT_FILENO;
 use refusal::{Refusal, Verdict, number};
+use std::io;
+use std::io::Stdout;
 
-fn say(number: u64) {
-    io::write_all(STDOUT_FILENO, b" ");
-    io::print_decimal(STDOUT_FILENO, number);
+fn say(number: u64, out: Stdout) -> io::Result<()> {
+    print!(out; " {number}")
 }
 
-fn say_refusal(why: Refusal) {
-    say(number(why) as u64)
+fn say_refusal(why: Refusal, out: Stdout) -> io::Result<()> {
+    say(number(why) as u64, out)
 }
 
-pub(crate) fn say_truth(truth: bool) {
-    if truth { say(1) } else { say(0) }
+pub(crate) fn say_truth(truth: bool, out: Stdout) -> io::Result<()> {
+    if truth { say(1, out) } else { say(0, out) }
 }
 
 // The 64 bits of a signed number.
@@ -27,47 +27,47 @@ fn bits_of(signed: i64) -> u64 {
     u64::MAX - below as u64
 }
 
-fn say_signed(signed: i64) {
-    io::write_all(STDOUT_FILENO, b" ");
-    io::print_hex(STDOUT_FILENO, bits_of(signed), 16);
+fn say_signed(signed: i64, out: Stdout) -> io::Result<()> {
+    let bits = bits_of(signed);
+    print!(out; " {bits:016x}")
 }
 
-pub(crate) fn say_slot(slot: Slot) {
-    say(slot.weekday as u64);
-    say(slot.hour as u64)
+pub(crate) fn say_slot(slot: Slot, out: Stdout) -> io::Result<()> {
+    say(slot.weekday as u64, out)?;
+    say(slot.hour as u64, out)
 }
 
-fn say_cell(cell: Cell) {
-    say(cell.weights as u64);
-    say(cell.refused as u64);
-    say_signed(cell.sum)
+fn say_cell(cell: Cell, out: Stdout) -> io::Result<()> {
+    say(cell.weights as u64, out)?;
+    say(cell.refused as u64, out)?;
+    say_signed(cell.sum, out)
 }
 
-pub(crate) fn say_added(added: Added) {
+pub(crate) fn say_added(added: Added, out: Stdout) -> io::Result<()> {
     match added {
-        Added::Refused(why) => say_refusal(why),
+        Added::Refused(why) => say_refusal(why, out),
         Added::Cell(cell) => {
-            say(0);
-            say_cell(cell)
+            say(0, out)?;
+            say_cell(cell, out)
         }
     }
 }
 
-fn say_fraction(fraction: Fraction) {
-    say(0);
-    say(1);
-    say_signed(fraction.upper);
-    say_signed(fraction.lower)
+fn say_fraction(fraction: Fraction, out: Stdout) -> io::Result<()> {
+    say(0, out)?;
+    say(1, out)?;
+    say_signed(fraction.upper, out)?;
+    say_signed(fraction.lower, out)
 }
 
-pub(crate) fn say_mean(mean: Mean) {
+pub(crate) fn say_mean(mean: Mean, out: Stdout) -> io::Result<()> {
     match mean {
-        Mean::Refused(why) => say_refusal(why),
+        Mean::Refused(why) => say_refusal(why, out),
         Mean::NoReadings => {
-            say(0);
-            say(0)
+            say(0, out)?;
+            say(0, out)
         }
-        Mean::Fraction(fraction) => say_fraction(fraction),
+        Mean::Fraction(fraction) => say_fraction(fraction, out),
     }
 }
 
@@ -87,48 +87,50 @@ fn told_in(row: [Cell; 24]) -> u64 {
     told
 }
 
-fn say_told(table: [[Cell; 24]; 7]) {
+fn say_told(table: [[Cell; 24]; 7], out: Stdout) -> io::Result<()> {
     let mut told = 0u64;
     let mut weekday = 0;
     while weekday < 7 {
         told = std::num::wrapping_add_u64(told, told_in(table[weekday]));
         weekday += 1;
     }
-    say(told)
+    say(told, out)
 }
 
-fn say_row(weekday: usize, row: [Cell; 24]) {
+fn say_row(weekday: usize, row: [Cell; 24], out: Stdout) -> io::Result<()> {
     let mut hour = 0;
     while hour < 24 {
         if is_told(row[hour]) {
-            say(weekday as u64);
-            say(hour as u64);
-            say_cell(row[hour]);
+            say(weekday as u64, out)?;
+            say(hour as u64, out)?;
+            say_cell(row[hour], out)?;
         }
         hour += 1;
     }
+    Ok(())
 }
 
 // How many cells are not empty, and each of them behind its weekday and hour.
-fn say_table(table: [[Cell; 24]; 7]) {
-    say_told(table);
+fn say_table(table: [[Cell; 24]; 7], out: Stdout) -> io::Result<()> {
+    say_told(table, out)?;
     let mut weekday = 0;
     while weekday < 7 {
-        say_row(weekday, table[weekday]);
+        say_row(weekday, table[weekday], out)?;
         weekday += 1;
     }
+    Ok(())
 }
 
-fn say_verdict(verdict: Verdict) {
+fn say_verdict(verdict: Verdict, out: Stdout) -> io::Result<()> {
     match verdict {
-        Verdict::Good => say(0),
-        Verdict::Refused(why) => say_refusal(why),
+        Verdict::Good => say(0, out),
+        Verdict::Refused(why) => say_refusal(why, out),
     }
 }
 
-pub(crate) fn say_filled(filled: Filled) {
+pub(crate) fn say_filled(filled: Filled, out: Stdout) -> io::Result<()> {
     let verdict = filled.verdict;
-    say_verdict(verdict);
-    say(filled.records as u64);
-    say_table(table_of(filled))
+    say_verdict(verdict, out)?;
+    say(filled.records as u64, out)?;
+    say_table(table_of(filled), out)
 }

@@ -6,61 +6,63 @@ use crate::words::{
 use body::{Opened, Parts};
 use frame::Needed;
 use room::Written;
+use std::io;
+use std::io::{Stdin, Stdout};
 
 // Register and byte; the register.
-pub(crate) fn feed() {
-    let register = take_byte();
-    say_small(check_byte::feed(register, take_byte()))
+pub(crate) fn feed(input: Stdin, out: Stdout) -> io::Result<()> {
+    let register = take_byte(input)?;
+    say_small(check_byte::feed(register, take_byte(input)?), out)
 }
 
 // Bytes; the register that starts at 0 and is fed them.
-pub(crate) fn feed_all(text: &[u8]) {
-    say_small(check_byte::feed_all(0, text))
+pub(crate) fn feed_all(text: &[u8], out: Stdout) -> io::Result<()> {
+    say_small(check_byte::feed_all(0, text), out)
 }
 
 // Bytes; their check.
-pub(crate) fn check_of(text: &[u8]) {
-    say_small(check_byte::check_of(text))
+pub(crate) fn check_of(text: &[u8], out: Stdout) -> io::Result<()> {
+    say_small(check_byte::check_of(text), out)
 }
 
 // An address; whether it may stand in a frame.
-pub(crate) fn legal() {
-    say_flag(body::legal(take_address()))
+pub(crate) fn legal(input: Stdin, out: Stdout) -> io::Result<()> {
+    say_flag(body::legal(take_address(input)?), out)
 }
 
 // A body that ended; its verdict.
-pub(crate) fn judge(text: &[u8]) {
-    say_verdict(body::judge(text))
+pub(crate) fn judge(text: &[u8], out: Stdout) -> io::Result<()> {
+    say_verdict(body::judge(text), out)
 }
 
-fn say_parts(parts: Parts, body: &[u8]) {
+fn say_parts(parts: Parts, body: &[u8], out: Stdout) -> io::Result<()> {
     let address = parts.address;
-    say_good();
-    say_address(address);
-    say_small(parts.code);
-    say_bytes(part(body, parts.from, parts.to))
+    say_good(out)?;
+    say_address(address, out)?;
+    say_small(parts.code, out)?;
+    say_bytes(part(body, parts.from, parts.to), out)
 }
 
 // A lent body; its address, code and data.
-pub(crate) fn open(text: &[u8]) {
+pub(crate) fn open(text: &[u8], out: Stdout) -> io::Result<()> {
     match body::open(text) {
-        Opened::Refused(why) => say_refusal(why),
-        Opened::Parts(parts) => say_parts(parts, text),
+        Opened::Refused(why) => say_refusal(why, out),
+        Opened::Parts(parts) => say_parts(parts, text, out),
     }
 }
 
 // Data, address and code; the room that their frame needs.
-pub(crate) fn room_needed(text: &[u8]) {
-    match frame::room_needed(take_address(), take_byte(), text) {
-        Needed::Refused(why) => say_refusal(why),
+pub(crate) fn room_needed(text: &[u8], input: Stdin, out: Stdout) -> io::Result<()> {
+    match frame::room_needed(take_address(input)?, take_byte(input)?, text) {
+        Needed::Refused(why) => say_refusal(why, out),
         Needed::Bytes(needed) => {
-            say_good();
-            say_number(needed as u64)
+            say_good(out)?;
+            say_number(needed as u64, out)
         }
     }
 }
 
 // Data, lent room, address and code.
-pub(crate) fn write(text: &[u8], room: &mut [u8]) -> Written {
-    frame::write(take_address(), take_byte(), text, room)
+pub(crate) fn write(text: &[u8], room: &mut [u8], input: Stdin) -> io::Result<Written> {
+    Ok(frame::write(take_address(input)?, take_byte(input)?, text, room))
 }

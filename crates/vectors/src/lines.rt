@@ -6,44 +6,46 @@ use crate::words::{say_bytes, say_number, say_refused, say_small, say_tagged};
 use line::{BodyPlace, Event, Phase, Place, Reader, WirePlace};
 use refusal::{Named, of_number};
 use room::lay;
+use std::io;
+use std::io::{Stdin, Stdout};
 
-fn take_phase() -> Phase {
-    match take_byte() {
-        0 => Phase::Seeking,
-        1 => Phase::Delimited,
-        2 => Phase::Inside,
-        _ => Phase::Held,
+fn take_phase(input: Stdin) -> io::Result<Phase> {
+    match take_byte(input)? {
+        0 => Ok(Phase::Seeking),
+        1 => Ok(Phase::Delimited),
+        2 => Ok(Phase::Inside),
+        _ => Ok(Phase::Held),
     }
 }
 
 // Phase, eight bytes of the wire count, eight of the kept count.
-fn take_place() -> Place {
-    Place {
-        phase: take_phase(),
-        wire: WirePlace(take_number()),
-        kept: BodyPlace(take_number() as usize),
-    }
+fn take_place(input: Stdin) -> io::Result<Place> {
+    Ok(Place {
+        phase: take_phase(input)?,
+        wire: WirePlace(take_number(input)?),
+        kept: BodyPlace(take_number(input)? as usize),
+    })
 }
 
 // The refusal's number (for a frame, the number that stands for none), eight bytes of the wire count, eight of the kept count.
-pub(crate) fn take_event() -> Event {
-    let number = take_byte();
-    let wire = WirePlace(take_number());
-    let kept = BodyPlace(take_number() as usize);
+pub(crate) fn take_event(input: Stdin) -> io::Result<Event> {
+    let number = take_byte(input)?;
+    let wire = WirePlace(take_number(input)?);
+    let kept = BodyPlace(take_number(input)? as usize);
     match of_number(number) {
-        Named::Unknown => Event::Frame(wire, kept),
-        Named::Refusal(why) => Event::Refused(why, wire, kept),
+        Named::Unknown => Ok(Event::Frame(wire, kept)),
+        Named::Refusal(why) => Ok(Event::Refused(why, wire, kept)),
     }
 }
 
 // A state with some bytes at the front of its 255, zeros behind them.
-fn take_reader(kept: &[u8]) -> Reader {
+fn take_reader(kept: &[u8], input: Stdin) -> io::Result<Reader> {
     let mut body = [0u8; 255];
     lay(kept, &mut body, 0);
-    Reader {
-        place: take_place(),
+    Ok(Reader {
+        place: take_place(input)?,
         body,
-    }
+    })
 }
 
 fn phase_number(phase: Phase) -> u8 {
@@ -56,82 +58,82 @@ fn phase_number(phase: Phase) -> u8 {
 }
 
 // A state handed back. The bytes behind its kept bytes are of older bodies and are not told.
-fn say_place(place: Place, body: &[u8]) {
+fn say_place(place: Place, body: &[u8], out: Stdout) -> io::Result<()> {
     let kept = place.kept.0;
     let phase = place.phase;
-    say_small(phase_number(phase));
-    say_number(place.wire.0);
-    say_number(kept as u64);
-    say_bytes(part(body, 0, kept))
+    say_small(phase_number(phase), out)?;
+    say_number(place.wire.0, out)?;
+    say_number(kept as u64, out)?;
+    say_bytes(part(body, 0, kept), out)
 }
 
-fn say_frame(wire: u64, count: usize, body: &[u8]) {
-    say_tagged(1, wire);
-    say_number(count as u64);
-    say_bytes(part(body, 0, count))
+fn say_frame(wire: u64, count: usize, body: &[u8], out: Stdout) -> io::Result<()> {
+    say_tagged(1, wire, out)?;
+    say_number(count as u64, out)?;
+    say_bytes(part(body, 0, count), out)
 }
 
 // What an event tells: its counts, and the body or the refusal's number.
-pub(crate) fn say_event(event: Event, body: &[u8]) {
+pub(crate) fn say_event(event: Event, body: &[u8], out: Stdout) -> io::Result<()> {
     match event {
-        Event::Nothing => say_small(0),
-        Event::Frame(wire, kept) => say_frame(wire.0, kept.0, body),
+        Event::Nothing => say_small(0, out),
+        Event::Frame(wire, kept) => say_frame(wire.0, kept.0, body, out),
         Event::Refused(why, wire, kept) => {
-            say_refused(why);
-            say_number(wire.0);
-            say_number(kept.0 as u64)
+            say_refused(why, out)?;
+            say_number(wire.0, out)?;
+            say_number(kept.0 as u64, out)
         }
     }
 }
 
 // The next state, the bytes taken, the event.
-fn say_heard(reader: Reader, used: usize, event: Event) {
+fn say_heard(reader: Reader, used: usize, event: Event, out: Stdout) -> io::Result<()> {
     let place = reader.place;
-    say_place(place, &reader.body);
-    say_number(used as u64);
-    say_event(event, &reader.body)
+    say_place(place, &reader.body, out)?;
+    say_number(used as u64, out)?;
+    say_event(event, &reader.body, out)
 }
 
 // Bytes of the state, place, byte; the next state, the one byte taken, the event.
-pub(crate) fn take(text: &[u8]) {
-    let reader = take_reader(text);
-    let taken = reader.take(take_byte());
+pub(crate) fn take(text: &[u8], input: Stdin, out: Stdout) -> io::Result<()> {
+    let reader = take_reader(text, input)?;
+    let taken = reader.take(take_byte(input)?);
     let next = taken.reader;
     let event = taken.event;
-    say_heard(next, 1, event)
+    say_heard(next, 1, event, out)
 }
 
 // Bytes of the state and block, two bytes of how many are of the state, place; the next state, the bytes taken, the event.
-pub(crate) fn feed(text: &[u8]) {
-    let end = take_half();
-    let reader = take_reader(part(text, 0, end));
+pub(crate) fn feed(text: &[u8], input: Stdin, out: Stdout) -> io::Result<()> {
+    let end = take_half(input)?;
+    let reader = take_reader(part(text, 0, end), input)?;
     let fed = reader.feed(part(text, end, text.len()));
     let next = fed.reader;
     let event = fed.event;
-    say_heard(next, fed.used, event)
+    say_heard(next, fed.used, event, out)
 }
 
 // The same, with the 255 bytes lent.
-pub(crate) fn listen(text: &[u8]) {
-    let end = take_half();
-    let reader = take_reader(part(text, 0, end));
+pub(crate) fn listen(text: &[u8], input: Stdin, out: Stdout) -> io::Result<()> {
+    let end = take_half(input)?;
+    let reader = take_reader(part(text, 0, end), input)?;
     let place = reader.place;
     let mut body = reader.body;
     let went = place.listen(part(text, end, text.len()), &mut body);
     let place = went.place;
     let next = Reader { place, body };
     let event = went.event;
-    say_heard(next, went.used, event)
+    say_heard(next, went.used, event, out)
 }
 
 // An event where there is one; how many there are by then.
-fn told(event: Event, body: &[u8; 255], events: u64) -> u64 {
+fn told(event: Event, body: &[u8; 255], events: u64, out: Stdout) -> io::Result<u64> {
     if let Event::Nothing = event {
-        return events;
+        return Ok(events);
     }
     let all: &[u8] = body;
-    say_event(event, all);
-    std::num::wrapping_add_u64(events, 1)
+    say_event(event, all, out)?;
+    Ok(std::num::wrapping_add_u64(events, 1))
 }
 
 // Where a block of at most so many bytes ends. A size of 0 is none.
@@ -149,8 +151,8 @@ fn block_end(at: usize, size: usize, length: usize) -> usize
 }
 
 // Capture and block size; its events from a fresh reader, and how many they are.
-pub(crate) fn hear(text: &[u8]) {
-    let size = take_half();
+pub(crate) fn hear(text: &[u8], input: Stdin, out: Stdout) -> io::Result<()> {
+    let size = take_half(input)?;
     let mut reader = Reader::new();
     let mut events = 0;
     let mut at = 0;
@@ -159,9 +161,9 @@ pub(crate) fn hear(text: &[u8]) {
         let fed = reader.feed(&text[at..stop]);
         let next = fed.reader;
         let event = fed.event;
-        events = told(event, &next.body, events);
+        events = told(event, &next.body, events, out)?;
         reader = next;
         at += fed.used;
     }
-    say_number(events)
+    say_number(events, out)
 }

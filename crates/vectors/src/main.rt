@@ -16,106 +16,114 @@ mod walks;
 mod weights;
 mod words;
 
-use given::take_length;
-use libc::{STDIN_FILENO, STDOUT_FILENO};
+use blocks::read_full;
+use given::{LONGEST_GIVEN, take_length};
 use room::Written;
+use std::io;
+use std::io::{Stdin, Stdout};
 use words::say_written;
 
 // From this number on the functions write into lent room.
 const FIRST_WRITER: u8 = 27;
 
 // The functions, each under its number.
-fn tell(function: u8, text: &[u8]) {
+fn tell(function: u8, text: &[u8], input: Stdin, out: Stdout) -> io::Result<()> {
     match function {
-        1 => frames::feed(),
-        2 => frames::feed_all(text),
-        3 => frames::check_of(text),
-        4 => frames::legal(),
-        5 => frames::judge(text),
-        6 => frames::open(text),
-        7 => frames::room_needed(text),
-        8 => lines::take(text),
-        9 => lines::feed(text),
-        10 => lines::listen(text),
-        11 => lines::hear(text),
-        12 => weights::read(),
-        13 => weights::in_range(),
-        14 => weights::write(),
-        15 => weights::value(),
-        16 => weights::difference(),
-        17 => weights::kilograms(),
-        18 => weights::inputs_on(),
-        19 => messages::read(text),
-        20 => logs::read(text),
-        21 => logs::heard(text),
-        22 => logs::step(text),
-        23 => logs::noted(),
-        24 => walks::step(text),
-        25 => walks::walk(text),
-        _ => weights::mode(),
+        1 => frames::feed(input, out),
+        2 => frames::feed_all(text, out),
+        3 => frames::check_of(text, out),
+        4 => frames::legal(input, out),
+        5 => frames::judge(text, out),
+        6 => frames::open(text, out),
+        7 => frames::room_needed(text, input, out),
+        8 => lines::take(text, input, out),
+        9 => lines::feed(text, input, out),
+        10 => lines::listen(text, input, out),
+        11 => lines::hear(text, input, out),
+        12 => weights::read(input, out),
+        13 => weights::in_range(input, out),
+        14 => weights::write(input, out),
+        15 => weights::value(input, out),
+        16 => weights::difference(input, out),
+        17 => weights::kilograms(input, out),
+        18 => weights::inputs_on(input, out),
+        19 => messages::read(text, input, out),
+        20 => logs::read(text, out),
+        21 => logs::heard(text, input, out),
+        22 => logs::step(text, input, out),
+        23 => logs::noted(input, out),
+        24 => walks::step(text, input, out),
+        25 => walks::walk(text, input, out),
+        _ => weights::mode(input, out),
     }
 }
 
 // Those that write into lent room.
-fn write(function: u8, text: &[u8], room: &mut [u8]) -> Written {
+fn write(function: u8, text: &[u8], room: &mut [u8], input: Stdin) -> io::Result<Written> {
     match function {
-        27 => frames::write(text, room),
-        28 => messages::write(text, room),
-        29 => logs::write(room),
-        30 => listings::write_line(text, room),
-        _ => listings::write_total(room),
+        27 => frames::write(text, room, input),
+        28 => messages::write(text, room, input),
+        29 => logs::write(room, input),
+        30 => listings::write_line(text, room, input),
+        _ => listings::write_total(room, input),
     }
 }
 
 // A write into a room as it is lent, and what it leaves there.
-fn tell_written(function: u8, text: &[u8], room: &mut [u8]) {
-    io::read_full(STDIN_FILENO, room);
-    let written = write(function, text, room);
-    say_written(written, room)
+fn tell_written(
+    function: u8,
+    text: &[u8],
+    room: &mut [u8],
+    mut input: Stdin,
+    out: Stdout,
+) -> io::Result<()> {
+    read_full(&mut input, room)?;
+    let written = write(function, text, room, input)?;
+    say_written(written, room, out)
 }
 
-fn lend(function: u8, text: &[u8]) {
-    let length = take_length();
-    let mut space = io::buffer();
-    tell_written(function, text, &mut space[0..length])
+fn lend(function: u8, text: &[u8], input: Stdin, out: Stdout) -> io::Result<()> {
+    let length = take_length(input)?;
+    let mut space = [0u8; LONGEST_GIVEN];
+    tell_written(function, text, &mut space[0..length], input, out)
 }
 
-fn answer(function: u8, text: &[u8]) {
+fn answer(function: u8, text: &[u8], input: Stdin, out: Stdout) -> io::Result<()> {
     if function < FIRST_WRITER {
-        tell(function, text)
+        tell(function, text, input, out)
     } else {
-        lend(function, text)
+        lend(function, text, input, out)
     }
 }
 
-fn run_text(function: u8, text: &mut [u8]) -> bool {
-    io::read_full(STDIN_FILENO, text);
-    io::print_decimal(STDOUT_FILENO, function as u64);
-    answer(function, text);
-    io::write_all(STDOUT_FILENO, b"\n")
+fn run_text(function: u8, text: &mut [u8], mut input: Stdin, out: Stdout) -> io::Result<()> {
+    read_full(&mut input, text)?;
+    print!(out; "{function}")?;
+    answer(function, text, input, out)?;
+    print!(out; "\n")
 }
 
-fn run_function(function: u8) -> bool {
-    let length = take_length();
-    let mut space = io::buffer();
-    run_text(function, &mut space[0..length])
+fn run_function(function: u8, input: Stdin, out: Stdout) -> io::Result<()> {
+    let length = take_length(input)?;
+    let mut space = [0u8; LONGEST_GIVEN];
+    run_text(function, &mut space[0..length], input, out)
 }
 
-// Runs one case. False at the end of the input, and if an answer could not be written.
-fn run_case() -> bool {
+// Runs one case. False at the end of the input.
+fn run_case(mut input: Stdin, out: Stdout) -> io::Result<bool> {
     let mut one = [0u8; 1];
-    if io::read_full(STDIN_FILENO, &mut one) == 0 {
-        return false;
+    if read_full(&mut input, &mut one)? == 0 {
+        return Ok(false);
     }
-    run_function(one[0])
+    run_function(one[0], input, out)?;
+    Ok(true)
 }
 
-fn main() {
-    let mut turns = u64::MAX;
-    while turns > 0 {
-        turns -= 1;
-        if !run_case() {
-            turns = 0;
+fn main(rt: HostRuntime) -> io::Result<()> {
+    for _ in 0..u64::MAX {
+        if !run_case(rt.stdin(), rt.stdout())? {
+            break;
         }
     }
+    Ok(())
 }

@@ -4,6 +4,8 @@ use crate::lines::say_event;
 use crate::words::{say_bytes, say_number, say_small};
 use capture_walker::{Next, Stepped, Walker};
 use room::lay;
+use std::io;
+use std::io::{Stdin, Stdout};
 use std::num::wrapping_add_u64;
 
 // One step of a walker made at a place. A walker is made and taken apart here alone, so that no other function has one in its locals.
@@ -16,60 +18,60 @@ fn step_of_walker(block: &[u8], place: usize, body: &mut [u8; 255]) -> Stepped {
     }
 }
 
-fn say_next(next: Next, body: &[u8]) {
+fn say_next(next: Next, body: &[u8], out: Stdout) -> io::Result<()> {
     match next {
-        Next::End => say_small(0),
-        Next::Event(event) => say_event(event, body),
+        Next::End => say_small(0, out),
+        Next::Event(event) => say_event(event, body, out),
     }
 }
 
 // What a step answers, and the place behind it.
-fn say_stepped(stepped: Stepped, body: &[u8; 255]) {
+fn say_stepped(stepped: Stepped, body: &[u8; 255], out: Stdout) -> io::Result<()> {
     let all: &[u8] = body;
     let next = stepped.next;
-    say_next(next, all);
-    say_number(stepped.place as u64)
+    say_next(next, all, out)?;
+    say_number(stepped.place as u64, out)
 }
 
-fn say_lent(body: &[u8; 255]) {
+fn say_lent(body: &[u8; 255], out: Stdout) -> io::Result<()> {
     let all: &[u8] = body;
-    say_bytes(all)
+    say_bytes(all, out)
 }
 
 // Lent bytes and block, two bytes of how many are lent, eight of the place; the step's answer, and all 255 bytes as it leaves them.
-pub(crate) fn step(text: &[u8]) {
-    let end = take_half();
-    let place = take_number() as usize;
+pub(crate) fn step(text: &[u8], input: Stdin, out: Stdout) -> io::Result<()> {
+    let end = take_half(input)?;
+    let place = take_number(input)? as usize;
     let mut body = [0u8; 255];
     lay(part(text, 0, end), &mut body, 0);
     let stepped = step_of_walker(part(text, end, text.len()), place, &mut body);
-    say_stepped(stepped, &body);
-    say_lent(&body)
+    say_stepped(stepped, &body, out)?;
+    say_lent(&body, out)
 }
 
 // Walks on to the end and tells each event. How many there were is told behind them; the place at the end is answered.
-fn walk_to_end(block: &[u8], from: usize, body: &mut [u8; 255]) -> usize {
+fn walk_to_end(block: &[u8], from: usize, body: &mut [u8; 255], out: Stdout) -> io::Result<usize> {
     let mut place = from;
     let mut events = 0;
     loop {
         let stepped = capture_walker::step_from(block, place, body);
         let next = stepped.next;
         if let Next::End = next {
-            say_number(events);
-            return stepped.place;
+            say_number(events, out)?;
+            return Ok(stepped.place);
         }
-        say_stepped(stepped, body);
+        say_stepped(stepped, body, out)?;
         place = stepped.place;
         events = wrapping_add_u64(events, 1);
     }
 }
 
 // Block, and eight bytes of the place; each event and the place behind it, their number, the place at the end, and what one step more answers.
-pub(crate) fn walk(text: &[u8]) {
-    let from = take_number() as usize;
+pub(crate) fn walk(text: &[u8], input: Stdin, out: Stdout) -> io::Result<()> {
+    let from = take_number(input)? as usize;
     let mut body = [0u8; 255];
-    let end = walk_to_end(text, from, &mut body);
-    say_number(end as u64);
+    let end = walk_to_end(text, from, &mut body, out)?;
+    say_number(end as u64, out)?;
     let again = capture_walker::step_from(text, end, &mut body);
-    say_stepped(again, &body)
+    say_stepped(again, &body, out)
 }

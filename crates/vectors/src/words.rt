@@ -1,105 +1,101 @@
 // What an answer is made of: words, each behind a blank. A number is told in decimal, bytes in hex, no bytes as `-`.
 use body::Address;
-use libc::STDOUT_FILENO;
 use refusal::{Refusal, Verdict, number};
 use room::Written;
+use std::io;
+use std::io::Stdout;
 use weight::{Reading, family_number};
 
-fn blank() {
-    io::write_all(STDOUT_FILENO, b" ");
+pub(crate) fn say_number(number: u64, out: Stdout) -> io::Result<()> {
+    print!(out; " {number}")
 }
 
-pub(crate) fn say_number(number: u64) {
-    blank();
-    io::print_decimal(STDOUT_FILENO, number);
+pub(crate) fn say_small(number: u8, out: Stdout) -> io::Result<()> {
+    say_number(number as u64, out)
 }
 
-pub(crate) fn say_small(number: u8) {
-    say_number(number as u64)
+pub(crate) fn say_flag(flag: bool, out: Stdout) -> io::Result<()> {
+    say_number(flag as u64, out)
 }
 
-pub(crate) fn say_flag(flag: bool) {
-    say_number(flag as u64)
+fn spell_byte(byte: u8, out: Stdout) -> io::Result<()> {
+    print!(out; "{byte:02x}")
 }
 
-fn spell_byte(byte: u8) {
-    io::print_hex(STDOUT_FILENO, byte as u64, 2);
-}
-
-fn spell(bytes: &[u8]) {
+fn spell(bytes: &[u8], out: Stdout) -> io::Result<()> {
     let mut at = 0;
     while at < bytes.len() {
-        spell_byte(bytes[at]);
+        spell_byte(bytes[at], out)?;
         at += 1;
     }
+    Ok(())
 }
 
-pub(crate) fn say_bytes(bytes: &[u8]) {
-    blank();
+pub(crate) fn say_bytes(bytes: &[u8], out: Stdout) -> io::Result<()> {
+    print!(out; " ")?;
     if bytes.len() == 0 {
-        io::write_all(STDOUT_FILENO, b"-");
+        print!(out; "-")?;
     }
-    spell(bytes)
+    spell(bytes, out)
 }
 
 // Sixty-four bits, in hex.
-pub(crate) fn say_bits(bits: u64) {
-    blank();
-    io::print_hex(STDOUT_FILENO, bits, 16);
+pub(crate) fn say_bits(bits: u64, out: Stdout) -> io::Result<()> {
+    print!(out; " {bits:016x}")
 }
 
 // The paper's number of a refusal. 0 stands for none.
-pub(crate) fn say_refusal(why: Refusal) {
-    say_small(number(why))
+pub(crate) fn say_refusal(why: Refusal, out: Stdout) -> io::Result<()> {
+    say_small(number(why), out)
 }
 
 // How a refusal starts in an answer of three kinds: 0 for nothing, 1 for what was heard or read, 2 for a refusal.
-pub(crate) fn say_refused(why: Refusal) {
-    say_small(2);
-    say_refusal(why)
+pub(crate) fn say_refused(why: Refusal, out: Stdout) -> io::Result<()> {
+    say_small(2, out)?;
+    say_refusal(why, out)
 }
 
-pub(crate) fn say_good() {
-    say_number(0)
+pub(crate) fn say_good(out: Stdout) -> io::Result<()> {
+    say_number(0, out)
 }
 
-pub(crate) fn say_verdict(verdict: Verdict) {
+pub(crate) fn say_verdict(verdict: Verdict, out: Stdout) -> io::Result<()> {
     match verdict {
-        Verdict::Good => say_good(),
-        Verdict::Refused(why) => say_refusal(why),
+        Verdict::Good => say_good(out),
+        Verdict::Refused(why) => say_refusal(why, out),
     }
 }
 
 // What a write answered, and its room as it is afterwards.
-pub(crate) fn say_written(written: Written, room: &[u8]) {
+pub(crate) fn say_written(written: Written, room: &[u8], out: Stdout) -> io::Result<()> {
     let verdict = written.verdict;
-    say_verdict(verdict);
-    say_number(written.length as u64);
-    say_bytes(room)
+    say_verdict(verdict, out)?;
+    say_number(written.length as u64, out)?;
+    say_bytes(room, out)
 }
 
 // A kind and a number. The caller says which number belongs to which kind.
-pub(crate) fn say_tagged(tag: u8, number: u64) {
-    say_small(tag);
-    say_number(number)
+pub(crate) fn say_tagged(tag: u8, number: u64, out: Stdout) -> io::Result<()> {
+    say_small(tag, out)?;
+    say_number(number, out)
 }
 
 // 0 for a short address and 1 for a serial, and its number.
-pub(crate) fn say_address(address: Address) {
+pub(crate) fn say_address(address: Address, out: Stdout) -> io::Result<()> {
     match address {
-        Address::Short(byte) => say_tagged(0, byte as u64),
-        Address::Serial(serial) => say_tagged(1, serial as u64),
+        Address::Short(byte) => say_tagged(0, byte as u64, out),
+        Address::Serial(serial) => say_tagged(1, serial as u64, out),
     }
 }
 
-pub(crate) fn say_reading(reading: Reading) {
+pub(crate) fn say_reading(reading: Reading, out: Stdout) -> io::Result<()> {
     let family = reading.family;
-    say_flag(reading.minus);
-    say_number(reading.number as u64);
-    say_small(reading.point);
-    say_flag(reading.bit6);
-    say_flag(reading.bit5);
-    say_flag(reading.settled);
-    say_flag(reading.overload);
-    say_small(family_number(family))
+    say_flag(reading.minus, out)?;
+    say_number(reading.number as u64, out)?;
+    say_small(reading.point, out)?;
+    say_flag(reading.bit6, out)?;
+    say_flag(reading.bit5, out)?;
+    say_flag(reading.settled, out)?;
+    say_flag(reading.overload, out)?;
+    say_small(family_number(family), out)
 }

@@ -3,12 +3,15 @@
 use mathlib.Core.Path.{◌∙◌, sym}
 use native.Mathlib.Omega.{arith}
 use mir.Syntax.{w64}
+use mir.Val.{SFits}
 use mir.ValLaws.{to_z-of_z}
+use borrow.Author.Rules.{rules}
 use borrow.Author.Tests.{eq-eqb}
 use Rattle.low_first.proofs.SignedWords.{negated_fits}
 use Rattle.hour_mean.specs.Means.{mean_of}
 use Rattle.hour_mean.proofs.Parts.{Known, shared_positive, upper_small, lower_small, down_mean, up_mean}
 use Rattle.hour_mean.proofs.mean_of.Goals as goal
+use Rattle.hour_mean.proofs.mean_of.Goals.{After-common-shared}
 
 pub returns-then-not-is_sound : goal.returns-then-not-is_sound
 unfolding mean_of
@@ -21,15 +24,16 @@ returns-then-cell-eq0 c =
 
 -- what the code knows where it has the common divisor
 known :
-    (c : goal.After-common-shared) →
+    (c : After-common-shared) →
     Known c.args.cell c.size_of-size.result c.common-shared.result
 known c =
+    let sum_fits : SFits w64 c.args.cell.sum = search rules in
     record {
       good = sym c.is_sound.ensures ∙ c.if-not-is_sound.false;
       few = omega arith;
       some = c.if-cell-eq0.false;
-      held = record { sfits = c.struct_told-1.given.1.1.0.1 };
-      is_size = rw (c.size_of-size.ensures, to_z-of_z w64 _ (record { sfits = c.struct_told-1.given.1.1.0.1 }));
+      held = sum_fits;
+      is_size = rw (c.size_of-size.ensures, to_z-of_z w64 c.args.cell.sum sum_fits);
       is_shared = c.common-shared.ensures;
     }
 
@@ -45,10 +49,9 @@ nonzero_div-lower c = shared_positive _ _ _ (known c)
 pub overflow_cast-lower : goal.overflow_cast-lower
 overflow_cast-lower c = record { sfits = lower_small _ _ _ (known c) }
 
--- either number may be negated: that it is the upper one, the contract alone says
 pub overflow_sub-upper : goal.overflow_sub-upper
 overflow_sub-upper c =
-    let k = known (goal.at.overflow_sub-upper c).After-common-shared in search (negated_fits w64 _ (upper_small _ _ _ k), negated_fits w64 _ (lower_small _ _ _ k))
+    let k = known (goal.at.overflow_sub-upper c).After-common-shared in search (negated_fits w64 _ (upper_small _ _ _ k))
 
 pub returns-then-cell-lt0 : goal.returns-then-cell-lt0
 returns-then-cell-lt0 c = c.over.ensures ∙ down_mean _ _ _ (known (goal.at.returns-then-cell-lt0 c).After-common-shared) c.if-cell-lt0.true

@@ -22,31 +22,15 @@ loop-i-init c = (omega arith, lit< tt, ap (λ (n : ℕ). all_in enter_byte n c.a
 few : (number i : ℕ) → i ≤ 2 → number < 256 ^ i → number < 65536
 few number i most below = lt_of_lt_of_le below (pow-le-pow_right {n = 256} (lit≤ tt) {i = i} {j = 2} most)
 
--- the body's elements are bytes
-byte_each : (c : goal.After-shared_slice_known-1) (i : ℕ) → get_or c.args.body.now i 0 < 256
-byte_each c i = (c.shared_slice_known-1.given i).fits
-
 pub overflow_mul-number : goal.overflow_mul-number
 overflow_mul-number c = let small = few c.loop-i.number c.loop-i.i (omega arith) c.loop-i.invariant.1 in record { fits = omega arith }
-
-pub bounds-body-i : goal.bounds-body-i
-bounds-body-i c = omega arith
-
-pub overflow_cast-number : goal.overflow_cast-number
-overflow_cast-number c = let byte = byte_each c c.loop-i.i in record { fits = omega arith }
 
 pub overflow_add-number : goal.overflow_add-number
 overflow_add-number c =
     let at = c.loop-i in
-    let byte = byte_each c at.i in
+    let byte : get_or c.args.body.now at.i 0 < 256 = (c.type_inv.body at.i).fits in
     let small = few at.number at.i (omega arith) at.invariant.1 in
     record { fits = omega arith }
-
-pub overflow_add-i : goal.overflow_add-i
-overflow_add-i c = omega arith
-
-pub loop-i-smaller : goal.loop-i-smaller
-loop-i-smaller c = omega arith
 
 pub loop-i-preserved : goal.loop-i-preserved
 loop-i-preserved c =
@@ -54,8 +38,8 @@ loop-i-preserved c =
     let body = c.args.body.now in
     let small = few at.number at.i (omega arith) at.invariant.1 in
     let more : at.number * 256 + get_or body at.i 0 < 256 ^ (at.i + 1) =
-    subst (λ (n : ℕ). at.number * 256 + get_or body at.i 0 < n) (sym (ap (λ (n : ℕ). 256 ^ n) (add-one at.i) ∙ pow-suc 256 at.i)) (digits_lt at.invariant.1 (byte_each c at.i)) in
-    (omega arith, more, one_in enter_byte stands_for byte_behind body (byte_each c) at.number at.i (omega arith) (omega arith) ∙ at.invariant.2)
+    subst (λ (n : ℕ). at.number * 256 + get_or body at.i 0 < n) (sym (ap (λ (n : ℕ). 256 ^ n) (add-one at.i) ∙ pow-suc 256 at.i)) (digits_lt at.invariant.1 (c.type_inv.body at.i).fits) in
+    (omega arith, more, one_in enter_byte stands_for byte_behind body (λ k. (c.type_inv.body k).fits) at.number at.i (omega arith) (omega arith) ∙ at.invariant.2)
 
 pub returns : goal.returns
 returns c =

@@ -1,17 +1,10 @@
 -- `codes::length_right` meets its contract: refusal 7's rule.
 -- Why: each arm's tests are those of the rule that it names.
-use native.Mathlib.Omega.{arith}
 use borrow.Author.Tests.{lt-leb, le-leb}
 use Rattle.codes.proofs.table.length_right.Goals as goal
 
 pub returns-then-data-lt2 : goal.returns-then-data-lt2
 returns-then-data-lt2 c = rw (← c.length_of.ensures, c.in-Counted.is, lt-leb _ _ c.if-data-lt2.true)
-
-pub overflow_cast-count : goal.overflow_cast-count
-overflow_cast-count c = omega (arith, c.shared_slice_known-in-Counted-1.given 1)
-
-pub overflow_add-result : goal.overflow_add-result
-overflow_add-result c = omega (arith, c.shared_slice_known-in-Counted-1.given 1)
 
 pub returns-in-Exactly : goal.returns-in-Exactly
 returns-in-Exactly c = rw (← c.length_of.ensures, c.in-Exactly.is)

@@ -19,5 +19,5 @@ slice_bounds-check_of-end c =
 pub returns : goal.returns
 returns c =
     let laid = c.put_unchecked-end in
-    let is_check = c.check_of-check.ensures ∙ ap (λ (n : ℕ). check_of (take n laid.new.1.1.1.0)) (sub-zero laid.result) in
+    let is_check = c.check_of-check.ensures ∙ ap (λ (n : ℕ). check_of (take n laid.new.room)) (sub-zero laid.result) in
     body_laid c.args.address c.args.code c.args.«data».now c.requires laid.ensures is_check c.lay_byte.ensures

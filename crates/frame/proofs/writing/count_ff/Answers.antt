@@ -4,43 +4,28 @@ use lib.Seq.{drop-cons}
 use lib.Dec.{eqb}
 use borrow.Author.Tests.{eq-eqb, ne_eqb}
 use native.Mathlib.Numerals.{add-one}
-use mathlib.Core.Logic.{⊎_elim}
 use mathlib.Core.List.{List}
 use mathlib.Core.Bool.{cond}
-use Prim.Native.Nat.{ℕ, ◌<◌, ◌+◌, ◌-◌}
+use Prim.Native.Nat.{ℕ, ◌<◌, ◌+◌}
 use mathlib.Core.Path.{◌≡◌}
 use native.Mathlib.Omega.{arith}
 use lib.ListN.{length, drop, get_or, drop_of_length-le}
 use Rattle.frame.specs.Stuffing.{count_ff}
 use Rattle.frame.proofs.writing.count_ff.Goals as goal
+use Rattle.frame.proofs.writing.count_ff.Goals.{then-body-i, else-body-i}
 
 -- the next byte counts where it is FF
 count_next : (body : List ℕ) (i : ℕ) → i < length body → count_ff (drop i body) ≡ cond (eqb (get_or body i 0) 0xFF) 1 0 + count_ff (drop (i + 1) body)
 unfolding count_ff
 count_next body i h = rw (add-one, drop-cons body i 0)
 
-pub loop-i-init : goal.loop-i-init
-loop-i-init c = (omega arith, omega arith, omega arith)
-
-pub bounds-body-i : goal.bounds-body-i
-bounds-body-i c = omega arith
-
-pub overflow_add-count : goal.overflow_add-count
-overflow_add-count c = omega arith
-
-pub overflow_add-i : goal.overflow_add-i
-overflow_add-i c = omega arith
-
-pub loop-i-smaller : goal.loop-i-smaller
-loop-i-smaller c = omega arith
-
 pub loop-i-preserved : goal.loop-i-preserved
 loop-i-preserved c =
     let next = count_next c.args.body.now c.loop-i.i (omega arith) in
-    ⊎_elim
-    (λ ff. let one = rw (eq-eqb _ _ ff.0.taken) (goal.at.loop-i-preserved c).At-loop-i next in (omega arith, omega arith, omega arith))
-    (λ other. let none = rw (ne_eqb _ _ other.0.left) (goal.at.loop-i-preserved c).At-loop-i next in (omega arith, omega arith, omega arith))
-    c.if-body-i.branch
+    elim c.if-body-i.branch [
+      | then-body-i w ↦ let one = rw (eq-eqb _ _ w.if-body-i.true) at next in (omega arith, omega arith, omega arith)
+      | else-body-i w ↦ let none = rw (ne_eqb _ _ w.if-body-i.false) at next in (omega arith, omega arith, omega arith)
+    ]
 
 pub returns : goal.returns
 unfolding count_ff

@@ -1,6 +1,5 @@
 -- `frame::put_body` meets its contract: the body's bytes go onto the wire one behind the other.
 -- Why: after i turns the stuffed form of the first i bytes is laid.
-use Prim.Native.Nat.{◌-◌}
 use native.Mathlib.Omega.{arith}
 use lib.Seq.{take_all}
 use Rattle.room.proofs.Over.{laid_none, laid_length}

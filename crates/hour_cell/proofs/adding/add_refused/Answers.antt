@@ -1,12 +1,10 @@
 -- `hour_cell::add_refused` meets its contract: 31, then 23 where the count is 65,535, and otherwise one refused record more.
 -- Why: the tests are the definition's; a count of 16 bits would pass 65,535 exactly if it is that.
 use Prim.Native.Nat.{◌<◌}
-use mathlib.Core.Path.{◌≡◌, ◌∙◌, refl, sym}
-use mathlib.Core.Bool.{true}
+use mathlib.Core.Path.{◌∙◌, refl, sym}
 use mir.Syntax.{w64}
 use mir.ValLaws.{to_z-of_z}
 use borrow.Author.Rules.{rules}
-use Rattle.hour_cell.specs.Cells.{sound}
 use Rattle.hour_cell.proofs.Counted.{refused_beyond, refused_full, refused_more_lem}
 use Rattle.hour_cell.proofs.adding.add_refused.Goals as goal
 

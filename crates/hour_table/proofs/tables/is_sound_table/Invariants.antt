@@ -6,8 +6,6 @@ use lib.ListN.{drop}
 use Rattle.hour_table.specs.Tables.{sound_table}
 use Rattle.hour_table.proofs.tables.is_sound_table.Given as goal
 
--- `hour_table::is_sound_table` meets its contract: whether every cell is sound.
--- Why: the rows from the present weekday on are sound exactly if all are, since those ahead of it were.
 abbrev pub invariant-loop-weekday : goal.invariant-loop-weekday
 invariant-loop-weekday l = (l.weekday ≤ 7) × (sound_table (drop l.weekday l.table) ≡ sound_table l.table)
 

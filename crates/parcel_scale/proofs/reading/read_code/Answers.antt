@@ -1,7 +1,7 @@
 -- `parcel_scale::read_code` meets its contract: what stands behind a code.
 -- Why: in an arm the code is the one that the arm names, and its row is found; in the last it is none of them.
 use mathlib.Core.Path.{◌∙◌, sym}
-use borrow.Author.Tests.{ne_eqb}
+use Rattle.std.proofs.Common.{rules, tests}
 use Rattle.parcel_scale.specs.declared.parcels.Parcel.TheVariants.{GetWeight, GetDeviceId, AckCommand, Nack}
 use Rattle.parcel_scale.specs.Layouts.{row_in, row_of}
 use Rattle.parcel_scale.specs.Reading.{read_code}
@@ -35,6 +35,4 @@ returns-in-240 c = rw c.in-240.is (c.plain-in-240.ensures ∙ sym (plain_row _ 0
 
 pub returns-in_default : goal.returns-in_default
 unfolding read_code row_of row_in
-returns-in_default c =
-    let others = c.in_default.rest in
-    rw (ne_eqb _ _ others.0.0.0.0.0.0.1, ne_eqb _ _ others.0.0.0.0.0.1, ne_eqb _ _ others.0.0.0.0.1, ne_eqb _ _ others.0.0.0.1, ne_eqb _ _ others.0.0.1, ne_eqb _ _ others.0.1, ne_eqb _ _ others.1)
+returns-in_default c = search (tests, rules)

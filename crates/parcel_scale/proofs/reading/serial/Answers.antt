@@ -17,5 +17,5 @@ pub returns : goal.returns
 unfolding read_code row_of row_in read_row widths numbers_in in_values
 returns c =
     let data' = c.args.«data».now in
-    let small : low_first (take 4 data') ≤ 0xFFFF_FFFF = omega (arith, c.first_word-number.ensures, c.first_word-number.type-inv) in
+    let small : low_first (take 4 data') ≤ 0xFFFF_FFFF = omega (arith, c.first_word-number.ensures) in
     rw (eq-eqb _ _ c.if-data-ne4.false, le-leb _ _ small, c.first_word-number.ensures)

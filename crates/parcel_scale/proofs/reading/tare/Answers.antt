@@ -20,5 +20,5 @@ unfolding read_code row_of row_in read_row widths numbers_in in_values
 returns c =
     let word = c.first_word in
     let data' = c.args.«data».now in
-    let small : low_first (take 4 data') ≤ 0xFFFF_FFFF = omega (arith, word.ensures, word.type-inv) in
-    rw (eq-eqb _ _ c.if-data-ne4.false, le-leb _ _ small, to_z-of_z w32 c.signed-grams.result (record { sfits = c.signed-grams.type-inv }), c.signed-grams.ensures, word.ensures)
+    let small : low_first (take 4 data') ≤ 0xFFFF_FFFF = omega (arith, word.ensures) in
+    rw (eq-eqb _ _ c.if-data-ne4.false, le-leb _ _ small, to_z-of_z w32 c.signed-grams.result (record { sfits = c.signed-grams.type_inv }), c.signed-grams.ensures, word.ensures)

@@ -5,7 +5,7 @@ use mathlib.Core.Path.{◌≡◌, ◌∙◌, sym}
 use native.Mathlib.Omega.{arith}
 use mir.Syntax.{w32}
 use mir.ValLaws.{to_z-of_z}
-use borrow.Author.Tests.{eq-eqb, ne_eqb, not-true, not-false}
+use borrow.Author.Tests.{eq-eqb, ne_eqb}
 use lib.ListN.{length, take, get_or}
 use Rattle.low_first.specs.LowFirst.{low_first}
 use Rattle.parcel_scale.specs.Layouts.{row_in, row_of, widths}
@@ -22,7 +22,7 @@ unfolding read_code row_of row_in read_row widths
 returns-then-not-marks_legal c =
     let data' = c.args.«data».now in
     let right : length data' ≡ 6 = c.if-data-ne6.false in
-    let wrong = sym c.marks_legal.ensures ∙ not-true _ c.if-not-marks_legal.true in
+    let wrong = sym c.marks_legal.ensures ∙ c.if-not-marks_legal.true in
     rw (eq-eqb _ _ right, weight_numbers data' right, weight_outside (low_first (take 4 data')) (get_or data' 4 0) (get_or data' 5 0) wrong)
 
 pub returns : goal.returns
@@ -31,14 +31,14 @@ returns c =
     let word = c.first_word in
     let data' = c.args.«data».now in
     let right : length data' ≡ 6 = c.if-data-ne6.false in
-    let marks = sym c.marks_legal.ensures ∙ not-false _ c.if-not-marks_legal.false in
-    let small : low_first (take 4 data') ≤ 0xFFFF_FFFF = omega (arith, word.ensures, word.type-inv) in
+    let marks = sym c.marks_legal.ensures ∙ c.if-not-marks_legal.false in
+    let small : low_first (take 4 data') ≤ 0xFFFF_FFFF = omega (arith, word.ensures) in
     rw (
       eq-eqb _ _ right,
       weight_numbers data' right,
       weight_within (low_first (take 4 data')) (get_or data' 4 0) (get_or data' 5 0) small,
       marks,
-      to_z-of_z w32 c.signed-count.result (record { sfits = c.signed-count.type-inv }),
+      to_z-of_z w32 c.signed-count.result (record { sfits = c.signed-count.type_inv }),
       c.signed-count.ensures,
       word.ensures,
     )

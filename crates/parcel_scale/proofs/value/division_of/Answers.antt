@@ -4,4 +4,4 @@ use Rattle.parcel_scale.proofs.Values.{division_at, division_most}
 use Rattle.parcel_scale.proofs.value.division_of.Goals as goal
 
 pub returns : goal.returns
-returns c = (division_at c.args.code c.requires, division_most c.args.code c.requires)
+returns c = record { value = division_at c.args.code c.requires; small = division_most c.args.code c.requires }

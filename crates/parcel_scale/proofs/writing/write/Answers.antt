@@ -4,7 +4,7 @@ use mathlib.Core.Path.{◌∙◌, sym, ap}
 use mir.Syntax.{w32}
 use mir.Val.{SFits}
 use mir.ValLaws.{to_z-of_z}
-use native.Mathlib.Omega.{arith}
+use Rattle.std.proofs.Common.{arith, rules}
 use Prim.Native.Nat.{◌≤◌}
 use borrow.Author.Tests.{le-leb}
 use Rattle.room.proofs.Leaving.{refused_leaves}
@@ -24,7 +24,7 @@ pub returns-in-SetTare : goal.returns-in-SetTare
 unfolding written_parcel judged_parcel parcel_bytes body_of legal_fields fields_of row_of row_in laid_out in_values written low_bytes
 returns-in-SetTare c =
     let grams = c.in-SetTare.grams in
-    let fits : SFits w32 grams = record { sfits = c.in-SetTare.given.0.1 } in
+    let fits : SFits w32 grams = search rules in
     let word = c.word_of.ensures ∙ ap word_of (to_z-of_z w32 grams fits) in
     rw (c.in-SetTare.is, le-leb (word_of grams) 0xFFFF_FFFF (word_most grams fits)) (rw word at c.write_word.ensures)
 
@@ -36,7 +36,7 @@ pub returns-then-marks_legal : goal.returns-then-marks_legal
 unfolding written_parcel judged_parcel parcel_bytes row_of row_in written
 returns-then-marks_legal c =
     let told = c.in-AckWeight.told in
-    let fits : SFits w32 told.count = record { sfits = c.in-AckWeight.given.0.1.1.0.1 } in
+    let fits : SFits w32 told.count = search rules in
     let marks = sym c.marks_legal.ensures ∙ c.if-marks_legal.true in
     rw (c.in-AckWeight.is, marks_decide told fits ∙ marks, weight_body told marks) c.write_weight.ensures
 
@@ -54,7 +54,7 @@ pub returns-in-AckDeviceId : goal.returns-in-AckDeviceId
 unfolding written_parcel judged_parcel parcel_bytes body_of legal_fields fields_of row_of row_in laid_out in_values written low_bytes
 returns-in-AckDeviceId c =
     let number = c.in-AckDeviceId.number in
-    let most : number ≤ 0xFFFF_FFFF = omega (arith, c.in-AckDeviceId.given.0.1) in
+    let most : number ≤ 0xFFFF_FFFF = omega arith in
     rw (c.in-AckDeviceId.is, le-leb number 0xFFFF_FFFF most) c.write_word-in-AckDeviceId.ensures
 
 pub returns-in-Nack : goal.returns-in-Nack

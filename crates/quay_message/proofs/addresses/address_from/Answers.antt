@@ -4,8 +4,6 @@ use borrow.Author.Tests.{eq-eqb, ne_eqb}
 use Rattle.quay_message.specs.Addresses.{address_from}
 use Rattle.quay_message.proofs.addresses.address_from.Goals as goal
 
--- `quay_message::address_from` meets its contract: a short address, a serial, or neither.
--- Why: each return stands behind the tests that the definition asks.
 pub returns-then-short-eq0 : goal.returns-then-short-eq0
 unfolding address_from
 returns-then-short-eq0 c = rw (eq-eqb _ _ c.if-short-eq0.true)

@@ -1,0 +1,9 @@
+// The static library that C links: each export calls the function of the same name in a library of this repository, and states its clauses again.
+
+#![tactic(auto)]
+
+mod line;
+mod listing;
+mod log;
+mod messages;
+mod weights;
