@@ -2,7 +2,6 @@
 use Rattle.std.proofs.Common.{◌-◌, ◌≤◌, length}
 use Rattle.bit_meter.proofs.find_in_pieces.Given as goal
 
--- `bit_meter::find_in_pieces` is safe and ends: each turn leaves a piece behind, inside the block.
 abbrev pub invariant-loop-at : goal.invariant-loop-at
 invariant-loop-at l = l.at ≤ length l.block
 

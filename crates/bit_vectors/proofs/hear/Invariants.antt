@@ -3,8 +3,6 @@
 use Rattle.std.proofs.Common.{◌≡◌, ◌-◌, ◌≤◌, length}
 use Rattle.bit_vectors.proofs.hear.Given as goal
 
--- `bit_vectors::hear` is safe and ends: each turn goes on inside the capture.
--- Why: a block that is not empty is heard by at least one byte, and never past its end.
 abbrev pub invariant-loop-at : goal.invariant-loop-at
 invariant-loop-at l = (l.at ≤ length l.capture) × (length l.body ≡ 255)
 

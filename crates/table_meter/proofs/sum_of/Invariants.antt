@@ -3,8 +3,6 @@
 use Rattle.std.proofs.Common.{◌-◌}
 use Rattle.table_meter.proofs.sum_of.Given as goal
 
--- `table_meter::sum_of` is safe and ends.
--- Why: each turn adds one day more, up to 7.
 abbrev pub invariant-loop-weekday : goal.invariant-loop-weekday
 invariant-loop-weekday l = Unit {0}
 

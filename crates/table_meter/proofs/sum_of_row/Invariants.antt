@@ -3,8 +3,6 @@
 use Rattle.std.proofs.Common.{◌-◌}
 use Rattle.table_meter.proofs.sum_of_row.Given as goal
 
--- `table_meter::sum_of_row` is safe and ends.
--- Why: each turn adds one hour more, up to 24.
 abbrev pub invariant-loop-hour : goal.invariant-loop-hour
 invariant-loop-hour l = Unit {0}
 

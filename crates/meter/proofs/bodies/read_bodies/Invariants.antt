@@ -2,7 +2,6 @@
 use Rattle.std.proofs.Common.{◌-◌, ◌≤◌, length}
 use Rattle.meter.proofs.bodies.read_bodies.Given as goal
 
--- `meter::read_bodies` is safe and ends: each turn leaves a body behind, inside the block.
 abbrev pub invariant-loop-at : goal.invariant-loop-at
 invariant-loop-at l = l.at ≤ length l.block
 

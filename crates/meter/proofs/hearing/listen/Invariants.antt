@@ -3,8 +3,6 @@
 use Rattle.std.proofs.Common.{◌≡◌, ◌-◌, ◌≤◌, length}
 use Rattle.meter.proofs.hearing.listen.Given as goal
 
--- `meter::listen` is safe and ends: each turn goes on inside the block.
--- Why: a block that is not empty is heard by at least one byte, and never past its end.
 abbrev pub invariant-loop-at : goal.invariant-loop-at
 invariant-loop-at l = (l.at ≤ length l.block) × (length l.reader.body ≡ 255)
 

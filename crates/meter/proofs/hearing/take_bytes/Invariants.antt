@@ -2,7 +2,6 @@
 use Rattle.std.proofs.Common.{◌-◌, ◌≤◌, length}
 use Rattle.meter.proofs.hearing.take_bytes.Given as goal
 
--- `meter::take_bytes` is safe and ends: each turn takes one byte of the block.
 abbrev pub invariant-loop-at : goal.invariant-loop-at
 invariant-loop-at l = l.at ≤ length l.block
 

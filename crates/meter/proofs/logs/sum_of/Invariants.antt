@@ -2,7 +2,6 @@
 use Rattle.std.proofs.Common.{◌-◌, ◌≤◌, length}
 use Rattle.meter.proofs.logs.sum_of.Given as goal
 
--- `meter::sum_of` is safe and ends: each turn goes on inside the page.
 abbrev pub invariant-loop-at : goal.invariant-loop-at
 invariant-loop-at l = (l.at ≤ length l.page)
 

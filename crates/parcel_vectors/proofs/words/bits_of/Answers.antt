@@ -4,7 +4,6 @@ use mir.Syntax.{w64}
 use Rattle.low_first.proofs.SignedWords.{Below, is_below, up_casts, next_fits, below_fits, below_told}
 use Rattle.parcel_vectors.proofs.words.bits_of.Goals as goal
 
--- `parcel_vectors::bits_of` is safe: a number not below 0 is its own bits, and one below 0 is as far below -1 as its bits are below 2^64 - 1.
 pub overflow_cast-result : goal.overflow_cast-result
 overflow_cast-result c = up_casts w64 c.args.tenths c.ranges.tenths c.if-tenths-ge0.true
 

@@ -3,7 +3,6 @@ use Prim.Native.Nat.{◌-◌}
 use lib.ListN.{length}
 use Rattle.parcel_vectors.proofs.words.say_bytes.Given as goal
 
--- `parcel_vectors::say_bytes` is safe and ends: each turn tells one byte more.
 abbrev pub invariant-loop-at : goal.invariant-loop-at
 invariant-loop-at l = Unit {0}
 

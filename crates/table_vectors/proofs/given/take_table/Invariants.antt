@@ -3,8 +3,6 @@
 
 use Rattle.table_vectors.proofs.given.take_table.Given as goal
 
--- `table_vectors::take_table` is safe and ends.
--- Why: each turn takes one cell less, and a rest of 7 or of 24 lies in the table.
 abbrev pub invariant-loop-told : goal.invariant-loop-told
 invariant-loop-told l = Unit {0}
 

@@ -3,8 +3,6 @@
 use Rattle.std.proofs.Common.{◌-◌}
 use Rattle.table_vectors.proofs.words.say_row.Given as goal
 
--- `table_vectors::say_row` is safe and ends.
--- Why: each turn tells one hour more, up to 24.
 abbrev pub invariant-loop-hour : goal.invariant-loop-hour
 invariant-loop-hour l = Unit {0}
 

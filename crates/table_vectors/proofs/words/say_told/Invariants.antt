@@ -3,8 +3,6 @@
 use Rattle.std.proofs.Common.{◌-◌}
 use Rattle.table_vectors.proofs.words.say_told.Given as goal
 
--- `table_vectors::say_told` is safe and ends.
--- Why: each turn counts one day more, up to 7.
 abbrev pub invariant-loop-weekday : goal.invariant-loop-weekday
 invariant-loop-weekday l = Unit {0}
 

@@ -3,8 +3,6 @@
 use Rattle.std.proofs.Common.{◌-◌}
 use Rattle.table_vectors.proofs.words.told_in.Given as goal
 
--- `table_vectors::told_in` is safe and ends.
--- Why: each turn asks one hour more, up to 24.
 abbrev pub invariant-loop-hour : goal.invariant-loop-hour
 invariant-loop-hour l = Unit {0}
 

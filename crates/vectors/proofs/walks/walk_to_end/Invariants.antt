@@ -3,8 +3,6 @@
 use Rattle.std.proofs.Common.{◌-◌, length}
 use Rattle.vectors.proofs.walks.walk_to_end.Given as goal
 
--- `vectors::walk_to_end` is safe and ends: each turn goes on inside the block.
--- Why: a step that met an event is behind the place that it started from, and not past the block's end.
 abbrev pub invariant-loop-body : goal.invariant-loop-body
 invariant-loop-body l = Unit {0}
 

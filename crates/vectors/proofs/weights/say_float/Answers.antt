@@ -3,7 +3,6 @@ use Rattle.std.proofs.Common.{◌≡◌, true, not, T, sym, true≢false}
 use lib.Ieee.{Float, nan, inf, fin, eq, is_nan}
 use Rattle.vectors.proofs.weights.say_float.Goals as goal
 
--- `vectors::say_float` is safe: only a float that equals itself is asked for its bits, and a NaN does not.
 no_nan : (x : Float) → eq x x ≡ true → T (not (is_nan x))
 unfolding is_nan eq
 no_nan nan e = absurd (true≢false (sym e))

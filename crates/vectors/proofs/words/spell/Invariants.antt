@@ -2,7 +2,6 @@
 use Rattle.std.proofs.Common.{◌-◌, length}
 use Rattle.vectors.proofs.words.spell.Given as goal
 
--- `vectors::spell` is safe and ends: each turn tells one byte more.
 abbrev pub invariant-loop-at : goal.invariant-loop-at
 invariant-loop-at l = Unit {0}
 
