@@ -1,5 +1,5 @@
 -- `bit_meter::find_in_pieces` is safe and ends: each turn leaves a piece behind, inside the block.
-use Rattle.std.proofs.Common.{◌-◌, arith}
+use Rattle.std.proofs.Common.{arith}
 use Rattle.bit_meter.proofs.find_in_pieces.Goals as goal
 
 pub overflow_sub-block : goal.overflow_sub-block

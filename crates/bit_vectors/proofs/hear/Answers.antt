@@ -1,6 +1,6 @@
 -- `bit_vectors::hear` is safe and ends: each turn goes on inside the capture.
 -- Why: a block that is not empty is heard by at least one byte, and never past its end.
-use Rattle.std.proofs.Common.{◌-◌, refl, arith, length-drop, length-take}
+use Rattle.std.proofs.Common.{refl, arith, length-drop, length-take}
 use Rattle.bit_vectors.proofs.hear.Goals as goal
 
 pub loop-at-init : goal.loop-at-init

@@ -1,4 +1,5 @@
--- What a read put behind the bytes of the reads before it is, with them, what all of them took from the input.
+-- `blocks::read_full` meets its contract: what it filled is what it took from the input.
+-- Why: what a read put behind the bytes of the reads before it is, with them, what all of them took from the input.
 use Rattle.std.proofs.Common.{◌≡◌, ℕ, ◌+◌, ◌-◌, ◌≤◌, List, ◌++◌, rules, arith, length, take, slice_range, sym, ap, ◌∙◌, subst, le_refl, drop_at, length-take-le}
 use Rattle.std.proofs.lemmas.Slice.{take-put_mid_below}
 use Rattle.std.specs.Io.KnownBytes.{Consumes}

@@ -1,5 +1,5 @@
 -- `parcel_meter::read_pieces` is safe and ends: each turn leaves a piece behind, inside the block.
-use Rattle.std.proofs.Common.{◌-◌, arith}
+use Rattle.std.proofs.Common.{arith}
 use Rattle.parcel_meter.proofs.read_pieces.Goals as goal
 
 pub overflow_sub-block : goal.overflow_sub-block

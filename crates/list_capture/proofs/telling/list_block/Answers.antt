@@ -1,6 +1,6 @@
 -- `list_capture::list_block` is safe and ends: each turn goes on inside the block.
 -- Why: a block that is not empty is heard by at least one byte, and never past its end.
-use Rattle.std.proofs.Common.{◌-◌, arith, length-drop, length-take, rules}
+use Rattle.std.proofs.Common.{arith, length-drop, length-take, rules}
 use Rattle.list_capture.proofs.telling.list_block.Goals as goal
 
 pub loop-at-init : goal.loop-at-init

@@ -1,5 +1,5 @@
 -- `meter::read_bodies` is safe and ends: each turn leaves a body behind, inside the block.
-use Rattle.std.proofs.Common.{◌-◌, arith}
+use Rattle.std.proofs.Common.{arith}
 use Rattle.meter.proofs.bodies.read_bodies.Goals as goal
 
 pub overflow_sub-block : goal.overflow_sub-block

@@ -1,6 +1,6 @@
 -- `meter::listen` is safe and ends: each turn goes on inside the block.
 -- Why: a block that is not empty is heard by at least one byte, and never past its end.
-use Rattle.std.proofs.Common.{◌-◌, arith, length-drop, length-take}
+use Rattle.std.proofs.Common.{arith, length-drop, length-take}
 use Rattle.meter.proofs.hearing.listen.Goals as goal
 
 pub slice_bounds-listen-count : goal.slice_bounds-listen-count

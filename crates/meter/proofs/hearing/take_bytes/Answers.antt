@@ -1,5 +1,5 @@
 -- `meter::take_bytes` is safe and ends: each turn takes one byte of the block.
-use Rattle.std.proofs.Common.{◌-◌, arith}
+use Rattle.std.proofs.Common.{arith}
 use Rattle.meter.proofs.hearing.take_bytes.Goals as goal
 
 pub bounds-block-at : goal.bounds-block-at

@@ -1,5 +1,5 @@
 -- `meter::sum_of` is safe and ends: each turn goes on inside the page.
-use Rattle.std.proofs.Common.{◌-◌, arith}
+use Rattle.std.proofs.Common.{arith}
 use Rattle.meter.proofs.logs.sum_of.Goals as goal
 
 pub bounds-page-at : goal.bounds-page-at

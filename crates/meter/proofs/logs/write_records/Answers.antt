@@ -1,5 +1,5 @@
 -- `meter::write_records` is safe and ends: each turn leaves a record behind, inside the block and the page, and the page stays as long as it was lent.
-use Rattle.std.proofs.Common.{◌-◌, arith}
+use Rattle.std.proofs.Common.{arith}
 use Rattle.meter.proofs.logs.write_records.Goals as goal
 
 pub overflow_sub-most : goal.overflow_sub-most

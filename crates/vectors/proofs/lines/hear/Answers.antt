@@ -1,6 +1,6 @@
 -- `vectors::hear` is safe and ends: each turn goes on inside the capture.
 -- Why: a block that is not empty is heard by at least one byte, and never past its end.
-use Rattle.std.proofs.Common.{◌-◌, arith, length-drop, length-take}
+use Rattle.std.proofs.Common.{arith, length-drop, length-take}
 use Rattle.vectors.proofs.lines.hear.Goals as goal
 
 pub slice_bounds-feed-count : goal.slice_bounds-feed-count
