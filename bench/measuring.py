@@ -65,7 +65,7 @@ class Meter:
 
     def counted(self, command: list[str], source: Path) -> tuple[int, bytes]:
         """Instructions in all, and what the program wrote."""
-        loaded = self.loader if command[0].startswith("target/") else []
+        loaded = self.loader if command[0].startswith("crates/") else []
         with source.open("rb") as wire:
             run = subprocess.run([*self.emulator, *loaded, *command], stdin=wire, capture_output=True, cwd=REPOSITORY, check=True)
         told = re.fullmatch(NOTE + rb"instructions (\d+)\n", run.stderr)

@@ -92,7 +92,8 @@ def is_program(crate: str) -> bool:
 def files_of(crate: str, folder: str = '') -> list[Path]:
     """Code, definitions and proofs of a crate, or those of one of its folders."""
     inside = ROOT / 'crates' / crate / folder
-    return sorted(file for file in inside.rglob('*') if file.suffix in ('.rt', '.antt'))
+    kept = ROOT / 'crates' / crate / 'out'  # what rt keeps is no text of ours
+    return sorted(file for file in inside.rglob('*') if file.suffix in ('.rt', '.antt') and kept not in file.parents)
 
 
 @once
