@@ -2,8 +2,8 @@
 
 #![tactic(auto)]
 
-mod line;
-mod listing;
-mod log;
+mod lines;
+mod listening;
+mod logs;
 mod messages;
 mod weights;
