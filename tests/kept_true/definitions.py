@@ -19,7 +19,7 @@ class Definition(NamedTuple):
 
 
 HEAD = re.compile(r' *(?P<marks>(?:(?:pub|abbrev|unfoldable) )*)'
-                  r'(?:(?:record|data) (?P<type>[^\s(){}:]+)|(?P<name>[^\s(){}:]+)(?: \{[^}]*\})* :(?= |$)(?P<claims>.*))')
+                  r'(?:(?:record|data|ruleset) (?P<type>[^\s(){}:]+)|(?P<name>[^\s(){}:]+)(?: \{[^}]*\})* :(?= |$)(?P<claims>.*))')
 BLOCK = re.compile(r'( *)module _\b')
 
 
@@ -54,10 +54,24 @@ def module_named(found: Import) -> str:
     return re.sub(r'^Rattle\.', '', found.module)
 
 
+IN_TACTIC = re.compile(r"(\w+)::((?:proofs|specs)(?:::[A-Z]\w*)+)::([^\s,()]+)")
+
+
+@once
+def named_in_tactics() -> set[tuple[str, str]]:
+    """The pairs of a module and a name of it that a function's `#[tactic(auto, using(..), unfolding(..))]` gives the search."""
+    found = set()
+    for crate in crates():
+        for file in files_of(crate, 'src'):
+            for home, module, name in IN_TACTIC.findall('\n'.join(bare_lines(file))):
+                found.add(('.'.join([crate if home == 'crate' else home, *module.split('::')]), name))
+    return found
+
+
 @once
 def named_from_outside() -> set[tuple[str, str]]:
     """The pairs of a module and a name of it that another file imports and uses."""
-    found = set()
+    found = set(named_in_tactics())
     for crate in crates():
         for file in files_of(crate):
             for brought in imports_of(file):

@@ -4,10 +4,7 @@ import re
 from texts import ROOT, Finding, bare_lines, crates, files_of
 
 # Named nowhere and needed all the same: with the crate out of the line the prover refuses what is said here.
-NEEDED = {
-    ('quay_message', 'codes'): 'the role that `crossing::role_from` answers and the load that `meaning` tells are types of `codes`: '
-                               '"a value is reached here whose type `quay_message` cannot name"',
-}
+NEEDED: dict[tuple[str, str], str] = {}
 
 # "The finding is for the crew's sheet only" (02, request 9): laws and programs of the sheet may ask for one, and no reader, message or log does.
 FOR_THE_SHEET = {'bad_bit': ('bit_meter', 'bit_vectors', 'crew_sheet')}

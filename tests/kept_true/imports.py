@@ -11,7 +11,7 @@ from texts import Finding, Import, crates, files_of, forget, imports_of, lines_n
 
 def is_rust(file: Path, found: Import) -> bool:
     """Code imports for itself; a `ghost use` imports for the contracts, which antt reads."""
-    return file.suffix == '.rt' and not lines_of(file)[found.line - 1].startswith('ghost ')
+    return file.suffix == '.rt' and not lines_of(file)[found.line - 1].lstrip().startswith('ghost ')
 
 
 def heads_import(file: Path, found: Import) -> bool:

@@ -1,4 +1,4 @@
-"""The tables of docs/PROMISES.md: each public function has a row under its crate, and the law that it names is there."""
+"""The tables of docs/PROMISES.md: each public function, and each conversion, has a row under its crate, and the law that it names is there."""
 import re
 from pathlib import Path
 from typing import NamedTuple
@@ -29,6 +29,31 @@ PUBLIC = re.compile(r'\s*pub (?:extern "C" )?fn (\w+)')
 def public_functions(crate: str) -> dict[str, tuple[Path, int]]:
     return {match[1]: (file, number) for file in files_of(crate, 'src') for number, line in enumerate(bare_lines(file), 1)
             if (match := PUBLIC.match(line))}
+
+
+CONVERSION = re.compile(r'impl(?:<[^{]*?>)? ((?:From|TryFrom)<.*> for .*) \{$')
+
+
+def conversions(crate: str) -> dict[str, tuple[Path, int]]:
+    """The conversions that a crate gives a type, each by what its impl says."""
+    return {match[1]: (file, number) for file in files_of(crate, 'src') for number, line in enumerate(bare_lines(file), 1)
+            if (match := CONVERSION.match(line.strip()))}
+
+
+def conversion_of(row: Row) -> list[str]:
+    """A row that begins with no function's name names the impl that it speaks of: `impl From<A> for B`."""
+    return re.findall(r'`impl ((?:From|TryFrom)<[^`]*> for [^`]*)`', row.cells[1])
+
+
+def conversions_told(crate: str) -> list[str]:
+    """Those that stand behind an export, and have no row of their own: a sentence under the crate's heading names them."""
+    told = '\n'.join(line for _, line in section_of(crate) if not line.startswith('|'))
+    return re.findall(r'`impl ((?:From|TryFrom)<[^`]*> for [^`]*)`', told)
+
+
+def stands_in(row: Row) -> list[str]:
+    """A row whose function went says which one states its promise: "now `row_of`: ..". Its wrong programs keep their names."""
+    return re.findall(r'^now `(\w+)`', row.cells[1])
 
 
 def has_lemma(crate: str, name: str) -> bool:
@@ -77,8 +102,17 @@ def findings() -> list[Finding]:
         functions = public_functions(crate)
         found += [Finding(file, line, f'docs/PROMISES.md has no row for `{crate}::{name}`')
                   for name, (file, line) in functions.items() if name not in rows]
+        given = conversions(crate)
+        named = {said for row in rows.values() for said in conversion_of(row)} | set(conversions_told(crate))
+        found += [Finding(file, line, f'docs/PROMISES.md has no row for `impl {said}` of `{crate}`')
+                  for said, (file, line) in given.items() if said not in named]
+        found += [Finding(PROMISES, row.line, f'`{crate}` has no `impl {said}`')
+                  for row in rows.values() for said in conversion_of(row) if said not in given]
+        found += [Finding(PROMISES, 1, f'`{crate}` has no `impl {said}`') for said in conversions_told(crate) if said not in given]
         for name, row in rows.items():
-            if name not in functions:
+            if any(now not in functions for now in stands_in(row)):
+                found.append(Finding(PROMISES, row.line, f'`{crate}` has no public function that `{name}` could be now'))
+            if name not in functions and not conversion_of(row) and not stands_in(row):
                 found.append(Finding(PROMISES, row.line, f'`{crate}` has no public function `{name}`'))
             found += law_of(crate, row)
     return found

@@ -103,8 +103,8 @@ def bare_lines(file: Path) -> list[str]:
     return [comment.sub('', line).rstrip() for line in lines_of(file)]
 
 
-BRACED = re.compile(r'(?:ghost )?use (?P<module>[^{}]+?)(?:\.|::)\{(?P<names>.*)\};?$')
-WHOLE = re.compile(r'(?:ghost )?use (?P<module>[^{}; ]+)(?: as (?P<local>[^; ]+))?;?$')
+BRACED = re.compile(r'\s*(?:ghost )?use (?P<module>[^{}]+?)(?:\.|::)\{(?P<names>.*)\};?$')
+WHOLE = re.compile(r'\s*(?:ghost )?use (?P<module>[^{}; ]+)(?: as (?P<local>[^; ]+))?;?$')
 
 
 def imports_in(line: str, number: int) -> list[Import]:
@@ -119,7 +119,7 @@ def imports_in(line: str, number: int) -> list[Import]:
         # Rust's `use a::b;` brings b itself; antt's `use a.b` brings a module
         module, _, name = re.match(r'(.*?)(::|\.)([^.:]+)$', whole['module']).groups()
         is_module = '::' not in whole['module']
-        written = line.removeprefix('ghost ').removeprefix('use ').rstrip(';')
+        written = line.strip().removeprefix('ghost ').removeprefix('use ').rstrip(';')
         return [Import(number, whole['module'] if is_module else module, written, name, whole['local'] or name, is_module)]
     return []
 

@@ -1,17 +1,17 @@
 -- Shown: 25 is said of a body whose length is outside 1 to 31, 26 of another that passes, and of each that is left the bit of the search.
 -- Why: the tests of the definition, one after the other.
+use Rattle.std.specs.Prelude.{Ok, Err}
 use Prim.Native.Nat.{ℕ, ◌≤◌, ◌<◌}
 use mathlib.Core.Path.{◌≡◌}
-use mathlib.Core.Bool.{Bool, true, false, ◌||◌, or-true, true≢false}
+use mathlib.Core.Bool.{Bool, true, false, ◌||◌, or-true}
 use mathlib.Core.List.{List}
 use mathlib.Core.Logic.{◌⊎◌, ⊎_elim}
 use native.Mathlib.Omega.{arith}
-use borrow.Author.Tests.{eq-eqb, ne_eqb, lt-ltb, le-ltb, ltb-false}
+use borrow.Author.Tests.{eq-eqb, ne_eqb, lt-ltb, le-ltb}
 use lib.Dec.{ltb, eqb}
 use lib.ListN.{length}
 use Rattle.refusal.specs.declared.Refusal.TheVariants.{LengthOutside, CheckRight}
 use Rattle.check_byte.specs.Register.{received}
-use Rattle.bad_bit.specs.declared.Finding.TheVariants.{Refused}
 use Rattle.bad_bit.specs.WhichBit.{bit_that_would, judged_for, finding}
 
 -- a length outside
@@ -26,23 +26,16 @@ is_inside many some few =
     let not_none : many ≡ 0 → ⊥ = λ (none : many ≡ 0). omega (arith, none, some) in
     rw (ne_eqb many 0 not_none, le-ltb 31 many few)
 
-neither : (a b : Bool) → (a || b) ≡ false → b ≡ false
-neither true b is = absurd (true≢false is)
-neither false b is = is
-
-pub few_inside : (many : ℕ) → outside many ≡ false → many ≤ 31
-few_inside many inside = ltb-false 31 many (neither (eqb many 0) (ltb 31 many) inside)
-
 module _ (body : List ℕ) where
-  pub said_outside : outside (length body) ≡ true → finding body ≡ Refused LengthOutside
+  pub said_outside : outside (length body) ≡ true → finding body ≡ Err LengthOutside
   unfolding finding judged_for
   said_outside is = rw is
 
   module _ (inside : outside (length body) ≡ false) where
-    pub said_right : received body ≡ 0 → finding body ≡ Refused CheckRight
+    pub said_right : received body ≡ 0 → finding body ≡ Err CheckRight
     unfolding finding judged_for
     said_right passes = rw (inside, eq-eqb (received body) 0 passes)
 
-    pub said_bit : (received body ≡ 0 → ⊥) → finding body ≡ bit_that_would body
+    pub said_bit : (received body ≡ 0 → ⊥) → finding body ≡ Ok (bit_that_would body)
     unfolding finding judged_for
     said_bit fails = rw (inside, ne_eqb (received body) 0 fails)

@@ -1,10 +1,10 @@
 -- Shown: a search goes on below a place that does not pass, and ends at one that does; two tests that agree give one answer.
 -- Why: by induction over the number.
-use Prim.Native.Nat.{ℕ, zero, suc, ◌<◌}
+use Rattle.std.specs.Prelude.{Some}
+use Prim.Native.Nat.{ℕ, zero, suc, ◌-◌, ◌<◌}
 use mathlib.Core.Path.{◌≡◌, refl}
 use mathlib.Core.Bool.{Bool, true, false}
 use native.Mathlib.Omega.{arith}
-use Rattle.bad_bit.specs.declared.Finding.TheVariants.{Bit}
 use Rattle.bad_bit.specs.WhichBit.{highest_below}
 
 -- two tests that are the same below a number
@@ -15,10 +15,12 @@ same_search (suc below) test other same =
     rw (same below (omega arith), same_search below test other (λ place h. same place (omega (arith, h))))
 
 -- one place less
-pub highest_passed : (place : ℕ) (test : ℕ → Bool) → test place ≡ true → Bit (record { 0 = place }) ≡ highest_below (suc place) test
+pub search_ends : (below : ℕ) (test : ℕ → Bool) → 0 < below → test (below - 1) ≡ true → highest_below below test ≡ Some (record { 0 = below - 1 })
 unfolding highest_below
-highest_passed place test is = rw is
+search_ends zero test some is = absurd (omega arith)
+search_ends (suc place) test some is = let last : suc place - 1 ≡ place = omega arith in let there : test place ≡ true = rw last at is in rw (there, last)
 
-pub highest_left : (place : ℕ) (test : ℕ → Bool) → test place ≡ false → highest_below place test ≡ highest_below (suc place) test
+pub search_on : (below : ℕ) (test : ℕ → Bool) → 0 < below → test (below - 1) ≡ false → highest_below (below - 1) test ≡ highest_below below test
 unfolding highest_below
-highest_left place test is = rw is
+search_on zero test some is = absurd (omega arith)
+search_on (suc place) test some is = let last : suc place - 1 ≡ place = omega arith in let there : test place ≡ false = rw last at is in rw (there, last)

@@ -4,89 +4,70 @@
 
 #![tactic(auto)]
 
-use bad_bit::{Finding, find};
+use bad_bit::{BitPlace, find};
 use blocks::read_full;
-use refusal::number;
+use refusal::Refusal;
 use room::front;
 use std::io;
 use std::io::Read;
-use std::num::wrapping_add_u64;
 
 const PIECE: usize = 32;
 
 const BLOCK: usize = 56_000;
 
-#[derive(Clone, Copy)]
+// The body of a piece: as many bytes as its first one says, or all that are left.
+fn find_in_piece(piece: &[u8]) -> Result<Option<BitPlace>, Refusal> {
+    let Some((length, rest)) = piece.split_first() else {
+        return find(piece);
+    };
+    find(front(rest, *length as usize))
+}
+
+#[derive(Clone, Copy, Debug, Default, PartialEq, Eq)]
 struct Told {
     good: u64,
     refused: u64,
     sum: u64,
 }
 
-fn with_bit(told: Told, place: usize) -> Told {
-    Told {
-        good: wrapping_add_u64(told.good, 1),
-        refused: told.refused,
-        sum: wrapping_add_u64(told.sum, place as u64),
+impl Told {
+    fn add_good(&mut self, place: usize) {
+        self.good = self.good.wrapping_add(1);
+        self.sum = self.sum.wrapping_add(place as u64);
     }
-}
 
-fn without_bit(told: Told, number: u8) -> Told {
-    Told {
-        good: told.good,
-        refused: wrapping_add_u64(told.refused, 1),
-        sum: wrapping_add_u64(told.sum, number as u64),
+    fn add_refused(&mut self, number: u8) {
+        self.refused = self.refused.wrapping_add(1);
+        self.sum = self.sum.wrapping_add(number as u64);
     }
-}
 
-fn with_finding(told: Told, finding: Finding) -> Told {
-    match finding {
-        Finding::Bit(place) => with_bit(told, place.0),
-        Finding::NoBit => without_bit(told, 0),
-        Finding::Refused(why) => without_bit(told, number(why)),
+    fn find_in_pieces(&mut self, block: &[u8]) {
+        for piece in block.chunks_exact(PIECE) {
+            match find_in_piece(piece) {
+                Ok(Some(place)) => self.add_good(place.0),
+                Ok(None) => self.add_refused(0),
+                Err(why) => self.add_refused(u8::from(why)),
+            }
+        }
     }
-}
-
-// The body of a piece: as many bytes as its first one says, or all that are left.
-fn find_in_piece(piece: &[u8]) -> Finding {
-    if piece.len() == 0 {
-        return find(piece);
-    }
-    let length = piece[0] as usize;
-    find(front(&piece[1..piece.len()], length))
-}
-
-fn find_in_pieces(told_before: Told, block: &[u8]) -> Told {
-    let mut told = told_before;
-    let mut at = 0;
-    while PIECE <= block.len() - at {
-        let end = at + PIECE;
-        told = with_finding(told, find_in_piece(&block[at..end]));
-        at = end;
-    }
-    told
 }
 
 // A proved loop has to end, but nothing says that an input ends. So the turns are counted up to a number that no run uses up.
+// The meters repeat this loop: a library function over what is done with a block would need a `requires` on it, and no public function has one.
 fn find_all(input: &mut impl Read, block: &mut [u8]) -> io::Result<Told> {
-    let mut told = Told {
-        good: 0,
-        refused: 0,
-        sum: 0,
-    };
+    let mut told = Told::default();
     for _ in 0..u64::MAX {
         let count = read_full(input, block)?;
         if count == 0 {
             break;
         }
-        told = find_in_pieces(told, &block[..count]);
+        told.find_in_pieces(&block[..count]);
     }
     Ok(told)
 }
 
 fn main(rt: HostRuntime) -> io::Result<()> {
     let mut block = [0u8; BLOCK];
-    let told = find_all(&mut rt.stdin(), &mut block)?;
-    let Told { good, refused, sum } = told;
+    let Told { good, refused, sum } = find_all(&mut rt.stdin(), &mut block)?;
     println!(rt; "good {good} refused {refused} sum {sum}")
 }

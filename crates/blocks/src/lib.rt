@@ -15,6 +15,7 @@ pub fn read_full<R: Read>(input: &mut R, block: &mut [u8]) -> io::Result<usize>
     ensures bytes { IfOk result (λ n. Consumes (R.remaining input.old) (R.remaining input.new) (take n block.new)) }
     ensures end { IfOk result (λ n. n < length block.new → IsAtEnd (R.remaining input.new)) }
 {
+    // A `while` and no `for`: each turn goes on by what a read gave.
     let mut done = 0;
     while done < block.len() {
         let count = input.read(&mut block[done..])?;

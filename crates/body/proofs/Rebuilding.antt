@@ -1,5 +1,6 @@
 -- Shown: a good body taken apart and put together is itself, and a body put together from a legal address is good and gives back its parts.
 -- Why: the first byte tells how long the address is, and the check is the only last byte that feeds to 0.
+use Rattle.std.specs.Prelude.{Ok}
 use Prim.Native.Nat.{ℕ, suc, ◌+◌, ◌-◌, ◌≤◌, ◌<◌}
 use mathlib.Core.Path.{◌≡◌, ◌∙◌, refl, sym, ap, ap₂}
 use mathlib.Core.Bool.{Bool, true, false, not, and-eq-true_iff}
@@ -11,7 +12,6 @@ use lib.Dec.{T, ltb, leb, eqb}
 use lib.ListN.{length, take, drop, get_or, length-append, take-append-drop}
 use lib.Seq.{slice, take_at, take-suc, take-take, take-length, slice-cons}
 use lib.Pow.{are_bytes}
-use Rattle.refusal.specs.declared.Verdict.TheVariants.{Good}
 use Rattle.refusal.proofs.Verdicts.{test_passed, rest_passed}
 use Rattle.laws.proofs.ByteLists.{byte_at, placed, front_by_place}
 use Rattle.check_byte.specs.Register.{received, check_of}
@@ -27,21 +27,21 @@ use Rattle.body.proofs.Shortness.{three, address_inside, six, not_short, good_no
 
 -- ---- what a good body is known to have
 
-pub good_check : (body : List ℕ) → judged body ≡ Good → received body ≡ 0
+pub good_check : (body : List ℕ) → judged body ≡ Ok tt → received body ≡ 0
 unfolding judged
 good_check body good =
     eqb-true (received body) 0 (not-false _ (test_passed (not (eqb (received body) 0)) _ _ (rest_passed (short body) _ _ good)))
 
-pub good_address_lem : (body : List ℕ) → judged body ≡ Good → legal (address_in body) ≡ true
+pub good_address_lem : (body : List ℕ) → judged body ≡ Ok tt → legal (address_in body) ≡ true
 unfolding judged
 good_address_lem body good =
     not-false _ (test_passed (not (legal (address_in body))) _ _ (rest_passed (not (eqb (received body) 0)) _ _ (rest_passed (short body) _ _ good)))
 
-pub good_not_empty : judged [] ≡ Good → ⊥
+pub good_not_empty : judged [] ≡ Ok tt → ⊥
 good_not_empty good = let long = three [] (good_not_short [] good) in omega arith
 
 -- a lent body that is good has at most 255 bytes, and is good at its end
-pub lent_at_most : (body : List ℕ) → judged_lent body ≡ Good → length body ≤ longest
+pub lent_at_most : (body : List ℕ) → judged_lent body ≡ Ok tt → length body ≤ longest
 unfolding judged_lent
 lent_at_most body good = ltb-false longest (length body) (test_passed (ltb longest (length body)) _ _ good)
 
@@ -50,12 +50,12 @@ pub lent_is : (body : List ℕ) → length body ≤ longest → judged_lent body
 unfolding judged_lent judged
 lent_is body most = rw (le-ltb longest (length body) most)
 
-pub lent_good : (body : List ℕ) → judged_lent body ≡ Good → judged body ≡ Good
+pub lent_good : (body : List ℕ) → judged_lent body ≡ Ok tt → judged body ≡ Ok tt
 unfolding judged_lent judged
 lent_good body good = rest_passed (ltb longest (length body)) _ _ good
 
 -- the first byte is never FF or FE
-pub first_low : (body : List ℕ) → judged body ≡ Good → get_or body 0 0 < 0xFE
+pub first_low : (body : List ℕ) → judged body ≡ Ok tt → get_or body 0 0 < 0xFE
 unfolding address_in legal
 first_low body good = by_first (eqb (get_or body 0 0) 0) refl
   where
@@ -116,7 +116,7 @@ module _ (code : ℕ) (data' : List ℕ) where
       not_short (body_of (Serial serial) code data') (omega (arith, body_length (Serial serial) code data')) (λ _. omega (arith, body_length (Serial serial) code data'))
 
   -- and it is good
-  pub made_good : (address : Address) → legal address ≡ true → judged (body_of address code data') ≡ Good
+  pub made_good : (address : Address) → legal address ≡ true → judged (body_of address code data') ≡ Ok tt
   unfolding judged body_of
   made_good address is_legal =
       rw (long address is_legal, checked (unchecked address code data'), address_back address is_legal, is_legal)
@@ -152,7 +152,7 @@ module _ (body : List ℕ) (all : T (are_bytes body)) where
       ∙ ap₂ ◌++◌ (take-take n end body (omega arith) ∙ spelled enough)
       (slice-cons n end body 0 (omega arith) (omega arith) ∙ ap (λ (k : ℕ). get_or body n 0 ∷ slice k end body) (sym (add-one n)))
 
-  pub rebuilt : judged body ≡ Good → body_of (address_in body) (code_in body) (data_in body) ≡ body
+  pub rebuilt : judged body ≡ Ok tt → body_of (address_in body) (code_in body) (data_in body) ≡ body
   unfolding body_of
   rebuilt good =
       let enough = good_not_short body good in

@@ -1,5 +1,6 @@
 -- Shown: a body that is not short has 3 bytes, and 6 where its first byte is 00, so that address, code and check stand inside it.
 -- Why: the two halves of refusal 1's test are both false.
+use Rattle.std.specs.Prelude.{Ok}
 use mathlib.Mathlib.Data.Bool.Basic.{or-eq-false-eq-eq-false-and-eq-false}
 use Prim.Native.Nat.{ℕ, ◌+◌, ◌≤◌}
 use mathlib.Core.Path.{◌≡◌, refl}
@@ -8,7 +9,6 @@ use mathlib.Core.List.{List}
 use borrow.Author.Tests.{ltb-false, le-ltb, eq-eqb, eqb-true}
 use lib.Dec.{ltb, eqb}
 use lib.ListN.{length, get_or}
-use Rattle.refusal.specs.declared.Verdict.TheVariants.{Good}
 use Rattle.refusal.proofs.Verdicts.{test_passed, rest_passed}
 use Rattle.body.specs.Addresses.{address_in, address_length}
 use Rattle.body.specs.Body.{longest, short, judged, judged_lent_if}
@@ -40,9 +40,9 @@ address_inside body e = by_first (eqb (get_or body 0 0) 0) refl
     by_first false other = rw other (three body e)
 
 -- a good body is not short
-pub told_not_short : (right : Bool) (body : List ℕ) → judged_lent_if right body ≡ Good → short body ≡ false
+pub told_not_short : (right : Bool) (body : List ℕ) → judged_lent_if right body ≡ Ok tt → short body ≡ false
 told_not_short right body good = test_passed (short body) _ _ (rest_passed (ltb longest (length body)) _ _ good)
 
-pub good_not_short : (body : List ℕ) → judged body ≡ Good → short body ≡ false
+pub good_not_short : (body : List ℕ) → judged body ≡ Ok tt → short body ≡ false
 unfolding judged
 good_not_short body good = test_passed (short body) _ _ good

@@ -1,17 +1,14 @@
 -- 01, "The frame": "A body is: address, operation code, data, check. It has at most 255 bytes."
 -- "What the answers mean": "At a body's end the order is 1, 4, 5". A lent body is judged 2 (over 255 bytes) ahead of them.
-use Rattle.std.specs.Prelude.{ℕ, ◌+◌, ◌-◌, Bool, not, ◌&&◌, ◌||◌, List, [], ◌∷◌, ◌++◌, length, get_or, ltb, eqb}
+use Rattle.std.specs.Prelude.{ℕ, ◌+◌, ◌-◌, Bool, not, ◌&&◌, ◌||◌, List, [], ◌∷◌, ◌++◌, length, get_or, ltb, eqb, Result, Ok, Err}
 use Rattle.std.proofs.Math.Seq.{slice}
 use Rattle.refusal.specs.declared.Refusal.TheVariants.{BodyShort, BodyLong, CheckWrong, AddressIllegal}
-use Rattle.refusal.specs.declared.Verdict.{Verdict}
-use Rattle.refusal.specs.declared.Verdict.TheVariants.{Good}
 use Rattle.refusal.specs.Numbers.{refuse_if, by_verdict}
 use Rattle.check_byte.specs.Register.{received, check_of}
 use Rattle.body.specs.declared.addresses.Address.{Address}
 use Rattle.body.specs.declared.bodies.Parts.{Parts}
-use Rattle.body.specs.declared.bodies.Opened.{Opened}
-use Rattle.body.specs.declared.bodies.Opened.TheVariants as opened_as
 use Rattle.body.specs.Addresses.{legal, address_bytes, address_in, address_length}
+use Rattle.refusal.specs.declared.Refusal.{Refusal}
 
 -- "It has at most 255 bytes."
 abbrev pub longest : ℕ
@@ -34,21 +31,21 @@ abbrev pub check_right : List ℕ → Bool
 check_right body = eqb (received body) 0
 
 -- a body that ended, judged 1, 4, 5; an argument says whether its check is right
-abbrev pub judged_if : Bool → List ℕ → Verdict
+abbrev pub judged_if : Bool → List ℕ → Result (Unit {0}) Refusal
 judged_if right body =
     refuse_if (short body) BodyShort
     (refuse_if (not right) CheckWrong
     (refuse_if (not (legal (address_in body))) AddressIllegal
-    Good))
+    (Ok tt)))
 
-unfoldable pub judged : List ℕ → Verdict
+unfoldable pub judged : List ℕ → Result (Unit {0}) Refusal
 judged body = judged_if (check_right body) body
 
 -- a body that was lent: 2 is judged ahead of them
-abbrev pub judged_lent_if : Bool → List ℕ → Verdict
+abbrev pub judged_lent_if : Bool → List ℕ → Result (Unit {0}) Refusal
 judged_lent_if right body = refuse_if (ltb longest (length body)) BodyLong (judged_if right body)
 
-unfoldable pub judged_lent : List ℕ → Verdict
+unfoldable pub judged_lent : List ℕ → Result (Unit {0}) Refusal
 judged_lent body = judged_lent_if (check_right body) body
 
 -- where in a body code and data stand
@@ -63,8 +60,8 @@ parts_of body = record { address = address_in body; code = code_in body; from = 
 
 -- a lent body taken apart, or the refusal it earns; an argument says whether the check is right. A body that a line handed out had a right
 -- one, so it isn't tested again
-unfoldable pub opened_if : Bool → List ℕ → Opened
-opened_if right body = by_verdict opened_as.Parts opened_as.Refused (judged_lent_if right body) (parts_of body)
+unfoldable pub opened_if : Bool → List ℕ → Result Parts Refusal
+opened_if right body = by_verdict Ok Err (judged_lent_if right body) (parts_of body)
 
-abbrev pub opened_body : List ℕ → Opened
+abbrev pub opened_body : List ℕ → Result Parts Refusal
 opened_body body = opened_if (check_right body) body

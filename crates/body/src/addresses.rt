@@ -2,7 +2,7 @@
 ghost use Rattle.std.specs.Prelude.{◌≡◌};
 ghost use Rattle.body.specs.Addresses.{legal, first_byte, serial_of};
 
-#[derive(Clone, Copy)]
+#[derive(Clone, Copy, Debug, PartialEq, Eq)]
 pub enum Address {
     Short(u8),
     Serial(u32),
@@ -14,16 +14,12 @@ const HIGHEST_SHORT: u8 = 0xFD;
 const HIGHEST_SERIAL: u32 = 16_777_215;
 
 // Whether an address may stand in a frame.
+#[tactic(auto, unfolding(crate::specs::Addresses::legal))]
 pub fn legal(address: Address) -> bool
     ensures { result ≡ legal address }
 {
     match address {
-        Address::Short(byte) => {
-            if byte < 1 {
-                return false;
-            }
-            byte <= HIGHEST_SHORT
-        }
+        Address::Short(byte) => (1..=HIGHEST_SHORT).contains(&byte),
         Address::Serial(serial) => serial <= HIGHEST_SERIAL,
     }
 }

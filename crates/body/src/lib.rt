@@ -7,5 +7,5 @@ mod bodies;
 
 pub use addresses::{Address, first_byte, legal, serial_of};
 pub use bodies::{
-    LONGEST_BODY, Opened, Parts, address_length, check_right, judge, open, open_without_check,
+    LONGEST_BODY, Parts, address_length, check_right, judge, open, open_without_check,
 };

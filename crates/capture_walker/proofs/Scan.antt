@@ -1,5 +1,6 @@
 -- Shown: the step from a place where no body starts is the step from the next place.
 -- Why: at rest such a byte is heard silently, keeps nothing and leads to the start behind it; and a block counts its bytes from wherever it began.
+use Rattle.std.specs.Prelude.{Option, Some, None}
 use Prim.Native.Nat.{ℕ, suc, ◌+◌, ◌<◌}
 use mathlib.Core.Path.{◌≡◌, ◌∙◌, refl, sym, ap}
 use mathlib.Core.Bool.{Bool, true, false}
@@ -11,27 +12,25 @@ use lib.ListN.{length, drop, get_or, drop_of_length-le}
 use lib.Seq.{drop-cons}
 use Rattle.body.specs.Body.{longest}
 use Rattle.line.specs.declared.places.Event.{Event}
-use Rattle.line.specs.declared.places.Event.TheVariants.{Nothing, Frame, Refused}
 use Rattle.line.specs.declared.reading.Reader.{Reader}
 use Rattle.line.specs.declared.reading.Fed.{Fed}
 use Rattle.line.specs.Listener.{nothing, Listener, hear}
 use Rattle.line.specs.Readers.{listening, place_of, taken, unless, fed_from, fed}
-use Rattle.line.proofs.Blocks.{standing}
-use Rattle.capture_walker.specs.Walking.{start_at, next_of, said_end, after_hearing, step_from}
+use Rattle.line.proofs.Blocks.{standing, lent_full}
+use Rattle.capture_walker.specs.Walking.{start_at, said_end, after_hearing, step_from}
 use Rattle.capture_walker.specs.Scanning.{delimited_at, starts_body}
 use Rattle.capture_walker.proofs.AtRest.{at_start, none_kept, at_rest_byte}
-use Rattle.capture_walker.proofs.OneStep.{lent_full, step_ends, step_hears}
+use Rattle.capture_walker.proofs.OneStep.{step_ends, step_hears}
 
 -- ---- a block counts from wherever it began
 
 abbrev one_more : Fed → Fed
 one_more answer = record { reader = answer.reader; event = answer.event; used = suc answer.used }
 
-unless_more : (event : Event) (later stopped later' stopped' : Fed) → later' ≡ one_more later → stopped' ≡ one_more stopped
+unless_more : (event : Option Event) (later stopped later' stopped' : Fed) → later' ≡ one_more later → stopped' ≡ one_more stopped
     → unless event later' stopped' ≡ one_more (unless event later stopped)
-unless_more Nothing later stopped later' stopped' l s = l
-unless_more (Frame wire kept) later stopped later' stopped' l s = s
-unless_more (Refused why wire kept) later stopped later' stopped' l s = s
+unless_more None later stopped later' stopped' l s = l
+unless_more (Some event) later stopped later' stopped' l s = s
 
 counts_on : (used : ℕ) (reader : Reader) (block : List ℕ) → fed_from (suc used) reader block ≡ one_more (fed_from used reader block)
 unfolding fed_from
@@ -52,7 +51,7 @@ module _ (block : List ℕ) (place : ℕ) (within : place < length block) (none 
   abbrev next : Reader
   next = standing (place_of (start_at block (suc place))) lent
 
-  silent : taken here (get_or block place 0) ≡ record { reader = next; event = Nothing }
+  silent : taken here (get_or block place 0) ≡ record { reader = next; event = None }
   unfolding taken
   silent =
       let byte = get_or block place 0 in
@@ -74,7 +73,7 @@ module _ (block : List ℕ) (place : ℕ) (within : place < length block) (none 
   from_behind false e =
       let answer = fed next (drop (suc place) block) in
       let far : place + suc answer.used ≡ suc place + answer.used = omega arith in
-      (λ i. record { answer = record { next = next_of answer.event; place = far i }; body = answer.reader.body })
+      (λ i. record { answer = record { next = answer.event; place = far i }; body = answer.reader.body })
       ∙ sym (step_hears block (suc place) lent (leb-false (length block) (suc place) e) ∙ ap (after_hearing (suc place)) (lent_full _ _ lent full))
 
   pub next_place : step_from block (suc place) lent ≡ step_from block place lent

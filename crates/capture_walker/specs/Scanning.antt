@@ -1,5 +1,5 @@
 -- For the step's own scan up to the next body; no public promise rests on this page.
-use Rattle.std.specs.Prelude.{ℕ, zero, suc, ◌+◌, ◌≤◌, ◌<◌, ◌≡◌, Bool, true, false, not, ◌&&◌, List, ◌⊎◌, eqb, length, get_or}
+use Rattle.std.specs.Prelude.{ℕ, zero, suc, ◌<◌, ◌≡◌, Bool, true, false, not, ◌&&◌, List, eqb, length, get_or, max, Option, MatchOption}
 use Rattle.body.specs.Body.{longest}
 use Rattle.capture_walker.specs.Walking.{step_from}
 
@@ -12,18 +12,20 @@ delimited_at block (suc before) = eqb (get_or block before 0) 0xFF
 abbrev pub starts_body : Bool → ℕ → Bool
 starts_body is_delimited byte = (is_delimited && not (eqb byte 0xFF)) && not (eqb byte 0xFE)
 
--- a promise: the step from one place is the step from the other, where a body starts or the block ends
-pub record SameStep (block : List ℕ) (from to : ℕ) : Type 0 where
-  pub within : to ≤ length block
-  pub same : (lent : List ℕ) → length lent ≡ longest → step_from block to lent ≡ step_from block from lent
-  pub starts : to < length block → starts_body (delimited_at block to) (get_or block to 0) ≡ true
+-- the step from one place is the step from the other
+abbrev pub SameStep : List ℕ → ℕ → ℕ → Type 0
+SameStep block from to = (lent : List ℕ) → length lent ≡ longest → step_from block to lent ≡ step_from block from lent
+
+-- a promise: a body starts at a place, and the step from there is the step from another place
+pub record StartsAt (block : List ℕ) (from start : ℕ) : Type 0 where
+  pub within : start < length block
+  pub starts : starts_body (delimited_at block start) (get_or block start 0) ≡ true
+  pub same : SameStep block from start
+
+-- a promise: where the next body starts; where none does, the step from the end is the step from the place
+abbrev pub NextBody : List ℕ → ℕ → Option ℕ → Type 0
+NextBody block from found = MatchOption found (SameStep block from (max from (length block))) (λ start. StartsAt block from start)
 
 -- how many bytes a body can be open for: its 255, each an FF with its FE, and the two FFs behind it
 abbrev pub longest_on_wire : ℕ
 longest_on_wire = 512
-
--- a promise: where the bytes end that a step from a body's first byte can need
-pub record Reaches (size start end : ℕ) : Type 0 where
-  pub from : start ≤ end
-  pub within : end ≤ size
-  pub enough : (end ≡ size) ⊎ (end ≡ start + longest_on_wire)

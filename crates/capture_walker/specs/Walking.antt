@@ -1,14 +1,10 @@
 -- 02, request 2: "Give them a capture walker that holds the lent block and its place in it; each step answers the next event and the walker moved
 -- on." The work of a step, over the block, the place and the 255 lent bytes that a body is kept in.
-use Rattle.std.specs.Prelude.{ℕ, zero, suc, ◌+◌, ◌%◌, ◌^◌, ◌≤◌, ◌<◌, ◌≡◌, cond, List, eqb, leb, length, drop, get_or}
+use Rattle.std.specs.Prelude.{ℕ, zero, suc, ◌+◌, ◌%◌, ◌^◌, ◌≤◌, ◌<◌, ◌≡◌, cond, List, eqb, leb, length, drop, get_or, None}
 use Rattle.body.specs.Body.{longest}
-use Rattle.line.specs.declared.places.Event.{Event}
-use Rattle.line.specs.declared.places.Event.TheVariants.{Nothing, Frame, Refused}
 use Rattle.line.specs.declared.reading.Fed.{Fed}
-use Rattle.line.specs.Listener.{State, seeking, delimited, Heard, nothing, Listener, fresh}
+use Rattle.line.specs.Listener.{State, seeking, delimited, Listener, fresh}
 use Rattle.line.specs.Readers.{place_of, heard_as, fed_lent, first_heard}
-use Rattle.capture_walker.specs.declared.stepping.Next.{Next}
-use Rattle.capture_walker.specs.declared.stepping.Next.TheVariants as next_as
 use Rattle.capture_walker.specs.declared.stepping.Stepped.{Stepped}
 
 -- ---- where a walk starts
@@ -25,24 +21,18 @@ start_at block (suc before) = record { state = state_behind (get_or block before
 
 -- ---- one step
 
--- "the next event", or "end" if there is none
-abbrev pub next_of : Event → Next
-next_of Nothing = next_as.End
-next_of (Frame wire kept) = next_as.Event (Frame wire kept)
-next_of (Refused why wire kept) = next_as.Event (Refused why wire kept)
-
--- a step that was taken: its answer, and the lent bytes as it left them
+-- a step that was taken: its answer, "the next event", or `None` for "end", and the lent bytes as it left them
 pub record StepTaken : Type 0 where
   pub answer : Stepped
   pub body : List ℕ
 
 -- a step that said "end", the place where it left the walk, and the lent bytes then
 abbrev pub said_end : ℕ → List ℕ → StepTaken
-said_end place body = record { answer = record { next = next_as.End; place = place }; body = body }
+said_end place body = record { answer = record { next = None; place = place }; body = body }
 
 -- a step that heard the rest of the block up to and including the first event, or to its end: its place is behind the bytes that it took
 abbrev pub after_hearing : ℕ → Fed → StepTaken
-after_hearing place heard = record { answer = record { next = next_of heard.event; place = place + heard.used }; body = heard.reader.body }
+after_hearing place heard = record { answer = record { next = heard.event; place = place + heard.used }; body = heard.reader.body }
 
 -- "An empty block, or a place past its end, ends at once": the place stays, and nothing lent changes. From any other place the rest of the block is
 -- heard as a line is. (255 bytes are lent; a list of another length, which nobody can lend, would take nothing.)
@@ -51,17 +41,11 @@ step_from block place lent =
     cond (leb (length block) place) (said_end place lent)
     (after_hearing place (fed_lent (place_of (start_at block place)) (drop place block) lent))
 
--- what a step tells, as the paper has it: a frame's body is read from the lent bytes
-abbrev pub heard_next : Next → List ℕ → Heard
-heard_next next_as.End body = nothing
-heard_next (next_as.Event event) body = heard_as event body
-
 -- a promise: the whole answer of a step and every lent byte. And what that is: the first event of the paper's listener over the rest of the block,
 -- and no other; the walk is then behind the place and within the block; the 255 lent bytes stay 255.
 pub record StepsFrom (block : List ℕ) (place : ℕ) (lent : List ℕ) (answered : Stepped) (left : List ℕ) : Type 0 where
   pub answer : answered ≡ (step_from block place lent).answer
   pub body : left ≡ (step_from block place lent).body
-  pub told : length lent ≡ longest → heard_next answered.next left ≡ first_heard (start_at block place) (drop place block)
-  pub some : answered.next ≡ next_as.Event Nothing → ⊥
-  pub forward : (answered.next ≡ next_as.End → ⊥) → (place < answered.place) × (answered.place ≤ length block)
+  pub told : length lent ≡ longest → heard_as answered.next left ≡ first_heard (start_at block place) (drop place block)
+  pub forward : (answered.next ≡ None → ⊥) → (place < answered.place) × (answered.place ≤ length block)
   pub full : length lent ≡ longest → length left ≡ longest

@@ -6,5 +6,5 @@ mod starting;
 mod stepping;
 mod walking;
 
-pub use stepping::{Next, Stepped, step_from};
+pub use stepping::{Stepped, step_from};
 pub use walking::{Walked, Walker};

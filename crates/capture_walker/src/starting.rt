@@ -1,6 +1,6 @@
-// Where a walk begins or goes on: no body is open there. And where the next body starts, which the whole block at hand tells quickly.
-ghost use Rattle.std.specs.Prelude.{◌≡◌, ◌+◌, ◌≤◌, length};
-ghost use Rattle.capture_walker.specs.Scanning.{delimited_at, starts_body, SameStep, Reaches};
+// Where the next body starts, which the whole block at hand tells quickly; how much of the block it can need; and where a walk stands there.
+ghost use Rattle.std.specs.Prelude.{◌≡◌, ◌<◌, ◌≤◌, length, take, slice_index};
+ghost use Rattle.capture_walker.specs.Scanning.{delimited_at, starts_body, NextBody, longest_on_wire};
 
 use line::{BodyPlace, Phase, Place, WirePlace};
 
@@ -16,49 +16,37 @@ fn is_delimited(block: &[u8], place: usize) -> bool
     requires { place ≤ length block.now }
     ensures { result ≡ delimited_at block.now place }
 {
-    if place == 0 {
-        return false;
-    }
-    let before = block[place - 1];
-    before == DELIMITER
+    place != 0 && block[place - 1] == DELIMITER
 }
 
 // Delimited: "FF stays, FE goes back to Seeking, any other byte starts a body". Seeking starts none.
-fn starts_body(delimited: bool, byte: u8) -> bool
-    ensures { result ≡ starts_body delimited byte }
+fn starts_body(block: &[u8], place: usize) -> bool
+    requires { place < length block.now }
+    ensures { result ≡ starts_body (delimited_at block.now place) (slice_index block.now place) }
 {
-    delimited & (byte != DELIMITER) & (byte != INSERTED)
+    let byte = block[place];
+    is_delimited(block, place) && byte != DELIMITER && byte != INSERTED
 }
 
-// How many bytes stand ahead of the next body's first byte, or of the block's end. Nothing is heard and nothing kept of them, so the step from behind
-// them is the step from here.
-pub(crate) fn ahead_of_body(block: &[u8], from: usize) -> usize
-    requires { from ≤ length block.now }
-    ensures { SameStep block.now from (from + result) }
+// The first byte of the next body, if one starts in the rest of the block. Nothing is heard and nothing kept of the bytes ahead of it, so the step
+// from there is the step from here.
+pub(crate) fn next_body(block: &[u8], from: usize) -> Option<usize>
+    ensures { NextBody block.now from result }
 {
-    let mut delimited = is_delimited(block, from);
-    let mut at = from;
-    while at < block.len() {
-        let byte = block[at];
-        if starts_body(delimited, byte) {
-            return at - from;
+    for at in from..block.len() {
+        if starts_body(block, at) {
+            return Some(at);
         }
-        delimited = byte == DELIMITER;
-        at += 1;
     }
-    at - from
+    None
 }
 
-// Where the bytes end that can be needed from a body's first byte to its event: a listener who is told how far it is has less to look at.
-pub(crate) fn reach(size: usize, start: usize) -> usize
-    requires { start ≤ size }
-    ensures { Reaches size start result }
+// As many bytes as can be needed from a body's first byte to its event: a listener who is told how far it is has less to look at.
+#[tactic(auto, using(std::proofs::lemmas::List::take_min))]
+pub(crate) fn reach(rest: &[u8]) -> &[u8]
+    ensures { result.now ≡ take longest_on_wire rest.now }
 {
-    let left = size - start;
-    if left < LONGEST_ON_WIRE {
-        return size;
-    }
-    start + LONGEST_ON_WIRE
+    &rest[..LONGEST_ON_WIRE.min(rest.len())]
 }
 
 // Behind a delimiter, with no body open, and the wire count going on from the place.

@@ -3,7 +3,8 @@
 ghost use Rattle.std.specs.Prelude.{◌≡◌};
 ghost use Rattle.capture_walker.specs.Walkers.{walker_at, WalkerSteps};
 
-use crate::stepping::{Next, step_from};
+use crate::stepping::{Stepped, step_from};
+use line::Event;
 
 #[derive(Clone, Copy)]
 pub struct Walker<'a> {
@@ -14,7 +15,7 @@ pub struct Walker<'a> {
 // "each step answers the next event and the walker moved on"
 #[derive(Clone, Copy)]
 pub struct Walked<'a> {
-    pub next: Next,
+    pub next: Option<Event>,
     pub walker: Walker<'a>,
 }
 
@@ -37,13 +38,10 @@ impl<'a> Walker<'a> {
     pub fn step<'b>(self, body: &'b mut [u8; 255]) -> Walked<'a>
         ensures { WalkerSteps self.entry body.old result body.new }
     {
-        let stepped = step_from(self.block, self.place, body);
+        let Stepped { next, place } = step_from(self.block, self.place, body);
         Walked {
-            next: stepped.next,
-            walker: Walker {
-                block: self.block,
-                place: stepped.place,
-            },
+            next,
+            walker: Walker { place, ..self },
         }
     }
 }

@@ -2,5 +2,4 @@ pub mod Folding
 pub mod Halves
 pub mod Laws
 pub mod OneAnswer
-pub mod Slices
 pub mod Wide

@@ -7,7 +7,7 @@
 
 #![tactic(auto)]
 
-ghost use Rattle.std.specs.Prelude.{◌≡◌, ◌<◌, ◌+◌, ◌*◌, ◌/◌, ◌%◌};
+ghost use Rattle.std.specs.Prelude.{◌≡◌, length, ◌<◌, ◌+◌, ◌*◌, ◌/◌, ◌%◌};
 ghost use Rattle.check_byte.specs.Register.{feed_bits, feed_byte, feed_all, check_of};
 ghost use Rattle.std.specs.Int.Bits.{bit_xor};
 
@@ -25,8 +25,8 @@ const HIGH_HALF: [u8; 16] = [
 pub fn feed(register: u8, byte: u8) -> u8
     ensures { result ≡ feed_byte register byte }
 {
-    let low = (register % 16) as usize;
-    let high = (register / 16) as usize;
+    let low = usize::from(register % 16);
+    let high = usize::from(register / 16);
     LOW_HALF[low] ^ HIGH_HALF[high] ^ byte
 }
 
@@ -38,7 +38,7 @@ fn fold_32(wide: u64) -> u64
     (wide % 4_294_967_296) ^ above ^ (above * 4)
 }
 
-// What stands above 16 bits is folded in below.
+// What stands above 16 bits is folded in below. Not one function with `fold_32`: a trait over the two widths would be longer than this line of work.
 fn fold_16(wide: u32) -> u32
     ensures { result ≡ bit_xor (bit_xor (wide % 65_536) (wide / 65_536)) (wide / 65_536 * 2) }
 {
@@ -51,21 +51,14 @@ fn enter(wide: u32, byte: u8) -> u32
     requires { wide < 16_777_216 }
     ensures { result ≡ wide * 256 + byte }
 {
-    wide * 256 + byte as u32
-}
-
-// Four bytes as a number, the first on top.
-fn four_of(first: u8, second: u8, third: u8, fourth: u8) -> u32
-    ensures { result ≡ ((first * 256 + second) * 256 + third) * 256 + fourth }
-{
-    enter(enter(enter(first as u32, second), third), fourth)
+    wide * 256 + u32::from(byte)
 }
 
 // Four bytes come to stand behind a wide number. Folded once it has 34 bits, folded twice 32.
 fn enter_four(wide: u32, four: u32) -> u32
     ensures { feed_bits 64 0 result ≡ feed_bits 64 0 (wide * 4_294_967_296 + four) }
 {
-    fold_32(fold_32(wide as u64 * 4_294_967_296 + four as u64)) as u32
+    fold_32(fold_32(u64::from(wide) * 4_294_967_296 + u64::from(four))) as u32
 }
 
 // The register that a wide number stands for.
@@ -76,31 +69,32 @@ fn register_of(wide: u32) -> u8
     feed((folded / 256) as u8, (folded % 256) as u8)
 }
 
-// All bytes of a slice into the register, in order. The bytes ahead of the first whole four, none to three, come first: behind the register
-// they fill 32 bits at most, so nothing is folded for them.
+// The bytes ahead of the first whole four, none to three, behind the register: they fill 32 bits at most, so nothing is folded for them.
+fn enter_few(register: u8, few: &[u8]) -> u32
+    requires { length few.now < 4 }
+    ensures { feed_bits 64 0 result ≡ feed_all register few.now }
+{
+    let mut wide = u32::from(register);
+    for byte in few {
+        wide = enter(wide, *byte);
+    }
+    wide
+}
+
+// All bytes of a slice into the register, in order.
 pub fn feed_all(register: u8, bytes: &[u8]) -> u8
     ensures { result ≡ feed_all register bytes.now }
 {
-    let mut wide = register as u32;
-    let next = bytes.len() % 2;
-    if next == 1 {
-        wide = enter(wide, bytes[0]);
-    }
-    if 1 < bytes.len() % 4 {
-        wide = enter(enter(wide, bytes[next]), bytes[next + 1]);
-    }
-    let mut i = bytes.len() % 4;
-    while i < bytes.len() {
-        wide = enter_four(
-            wide,
-            four_of(bytes[i], bytes[i + 1], bytes[i + 2], bytes[i + 3]),
-        );
-        i += 4;
+    let (few, fours) = bytes.as_rchunks::<4>();
+    let mut wide = enter_few(register, few);
+    for four in fours {
+        wide = enter_four(wide, u32::from_be_bytes(*four));
     }
     register_of(wide)
 }
 
 // The check of the bytes to be sent. All of them are fed, and then one zero byte.
+#[tactic(auto, unfolding(crate::specs::Register::check_of))]
 pub fn check_of(bytes: &[u8]) -> u8
     ensures { result ≡ check_of bytes.now }
 {

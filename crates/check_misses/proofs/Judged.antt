@@ -1,6 +1,7 @@
 -- Shown: of two bodies that are taken the differences that the check never misses do not occur, and a heard body with one bit turned over is refused.
 -- Why: what is taken passes. A heard body passes and is long enough: turned over it has the same length and another check, so it fails 1 by its address
 -- alone, or 4.
+use Rattle.std.specs.Prelude.{Result, Ok, Err}
 use Prim.Native.Nat.{ℕ, ◌≤◌, ◌<◌}
 use mathlib.Core.Path.{◌≡◌, ◌∙◌, refl, sym, ap}
 use mathlib.Core.Bool.{Bool, true, false, not, cond, ◌&&◌}
@@ -11,8 +12,6 @@ use lib.Dec.{ltb, eqb}
 use lib.ListN.{length, length-append, get_or}
 use lib.Bits.{bit_xor, xor_zero_l}
 use Rattle.refusal.specs.declared.Refusal.TheVariants.{BodyShort, CheckWrong, AddressIllegal}
-use Rattle.refusal.specs.declared.Verdict.{Verdict}
-use Rattle.refusal.specs.declared.Verdict.TheVariants.{Good, Refused}
 use Rattle.refusal.specs.Numbers.{refuse_if}
 use Rattle.check_byte.specs.Register.{received}
 use Rattle.body.specs.Addresses.{legal, address_in}
@@ -30,6 +29,7 @@ use Rattle.check_misses.proofs.Zeros.{power_some}
 use Rattle.check_misses.proofs.Neighbours.{eight_neighbours}
 use Rattle.check_misses.proofs.OneOrTwo.{one_or_two_bits}
 use Rattle.check_misses.proofs.TurnedOver.{length_turned, check_turned}
+use Rattle.refusal.specs.declared.Refusal.{Refusal}
 
 pub both_taken : BothTaken
 both_taken first second alike a b =
@@ -38,13 +38,13 @@ both_taken first second alike a b =
     record { neighbours = λ other only. eight_neighbours first second alike other only p q; bits = λ few bits. one_or_two_bits first second alike few bits p q }
 
 -- a body whose check is wrong is refused by 4, or by 1 where it is short
-pub short_or_four : (is_short : Bool) (later : Verdict) → refuse_if is_short BodyShort (refuse_if true CheckWrong later) ≡ Refused (cond is_short BodyShort CheckWrong)
+pub short_or_four : (is_short : Bool) (later : Result (Unit {0}) Refusal) → refuse_if is_short BodyShort (refuse_if true CheckWrong later) ≡ Err (cond is_short BodyShort CheckWrong)
 short_or_four true later = refl
 short_or_four false later = refl
 
 -- ---- a good body with one bit turned over
 
-module _ (body : List ℕ) (good : judged body ≡ Good) (most : length body ≤ longest) (place : ℕ) (h : place < bits_of body) where
+module _ (body : List ℕ) (good : judged body ≡ Ok tt) (most : length body ≤ longest) (place : ℕ) (h : place < bits_of body) where
   body' : List ℕ
   body' = turned_over place body
 
@@ -61,11 +61,11 @@ module _ (body : List ℕ) (good : judged body ≡ Good) (most : length body ≤
   unfolding short body'
   serial_alone = rw (le-ltb (length (turned_over place body)) 3 (rw (length_turned place body) (three body (good_not_short body good))))
 
-  turned_judged : judged_lent (turned_over place body) ≡ Refused (earned_by (turned_over place body))
+  turned_judged : judged_lent (turned_over place body) ≡ Err (earned_by (turned_over place body))
   unfolding judged body'
   turned_judged =
       lent_is body' (rw (length_turned place body) most)
-      ∙ rw (serial_alone, wrong) (short_or_four (eqb (get_or body' 0 0) 0 && ltb (length body') 6) (refuse_if (not (legal (address_in body'))) AddressIllegal Good))
+      ∙ rw (serial_alone, wrong) (short_or_four (eqb (get_or body' 0 0) 0 && ltb (length body') 6) (refuse_if (not (legal (address_in body'))) AddressIllegal (Ok tt)))
 
 -- ---- what a listener hears
 
@@ -75,7 +75,7 @@ Few listener = length (kept_of listener.state) ≤ longest
 -- a frame's body is good and has at most 255 bytes
 abbrev Sound : Heard → Type 0
 Sound nothing = Unit {0}
-Sound (frame wire kept body) = (judged body ≡ Good) × (length body ≤ longest)
+Sound (frame wire kept body) = (judged body ≡ Ok tt) × (length body ≤ longest)
 Sound (refused why wire kept) = Unit {0}
 
 one_byte : (listener : Listener) (byte : ℕ) → Few listener → Few (hear listener byte).next × Sound (hear listener byte).event

@@ -1,8 +1,7 @@
 -- 02, request 8: "not of wires, where a hit can make a false FF". Wires that one bad bit changes, computed: what is heard then. And what one bad bit in
 -- a body earns: 4, or 1 where its address becomes 00 and it has under 6 bytes.
-use Rattle.std.specs.Prelude.{ℕ, ◌≡◌, List, [], ◌∷◌}
+use Rattle.std.specs.Prelude.{ℕ, ◌≡◌, List, [], ◌∷◌, Ok, Err}
 use Rattle.refusal.specs.declared.Refusal.TheVariants.{BodyShort, HeldBroken, CheckWrong}
-use Rattle.refusal.specs.declared.Verdict.TheVariants.{Good, Refused}
 use Rattle.body.specs.Body.{judged_lent}
 use Rattle.line.specs.Listener.{frame, refused, fresh, events}
 use Rattle.check_misses.specs.Places.{turned_over, differing}
@@ -46,11 +45,11 @@ of_six = 0x01 ∷ 0xC3 ∷ 0x00 ∷ 0x00 ∷ 0x00 ∷ 0xD0 ∷ []
 -- E1's body with one bit turned over: the last of its check, one of its address, and the one with which its address becomes 00. Then it is too short, and
 -- so are five bytes; six are enough for a serial, and it is the check that refuses them
 pub record TurnedShown : Type 0 where
-  pub good : judged_lent asks_gross ≡ Good
-  pub check : judged_lent (turned_over 0 asks_gross) ≡ Refused CheckWrong
-  pub address : judged_lent (turned_over 17 asks_gross) ≡ Refused CheckWrong
-  pub no_address : judged_lent (turned_over 16 asks_gross) ≡ Refused BodyShort
-  pub five_good : judged_lent of_five ≡ Good
-  pub five : judged_lent (turned_over 32 of_five) ≡ Refused BodyShort
-  pub six_good : judged_lent of_six ≡ Good
-  pub six : judged_lent (turned_over 40 of_six) ≡ Refused CheckWrong
+  pub good : judged_lent asks_gross ≡ Ok tt
+  pub check : judged_lent (turned_over 0 asks_gross) ≡ Err CheckWrong
+  pub address : judged_lent (turned_over 17 asks_gross) ≡ Err CheckWrong
+  pub no_address : judged_lent (turned_over 16 asks_gross) ≡ Err BodyShort
+  pub five_good : judged_lent of_five ≡ Ok tt
+  pub five : judged_lent (turned_over 32 of_five) ≡ Err BodyShort
+  pub six_good : judged_lent of_six ≡ Ok tt
+  pub six : judged_lent (turned_over 40 of_six) ≡ Err CheckWrong

@@ -4,4 +4,4 @@
 
 mod table;
 
-pub use table::{Length, Load, Num, Role, Row, in_table, is_among, length_right, row_of};
+pub use table::{Length, Load, Num, Role, Row, is_among, length_right, row_of};

@@ -1,23 +1,23 @@
 // The table of messages: for each code what its data are, in a request and in a reply.
 ghost use Rattle.std.specs.Prelude.{◌≡◌};
-ghost use Rattle.codes.specs.Table.{line_of, row_of, in_table, among};
+ghost use Rattle.codes.specs.Table.{line_of, row_of, among};
 ghost use Rattle.codes.specs.Lengths.{length_of, length_right};
 
-#[derive(Clone, Copy)]
+#[derive(Clone, Copy, Debug, PartialEq, Eq)]
 pub enum Role {
     Request,
     Reply,
 }
 
 // Which weight a terminal tells.
-#[derive(Clone, Copy)]
+#[derive(Clone, Copy, Debug, PartialEq, Eq)]
 pub enum Load {
     Net,
     Gross,
 }
 
 // The values of NUM, by what it names.
-#[derive(Clone, Copy)]
+#[derive(Clone, Copy, Debug, PartialEq, Eq)]
 pub enum Num {
     Printers, // 03 or 13
     Indicators, // 1F, 20 or 21
@@ -25,9 +25,8 @@ pub enum Num {
 }
 
 // What the data of a message are. A row knows no code. If two lines have the same data, one row stands in both.
-#[derive(Clone, Copy)]
+#[derive(Clone, Copy, Debug, PartialEq, Eq)]
 pub enum Row {
-    Unknown, // not in the table
     Empty, // none
     Serial, // serial, 3 bytes, low first
     Number(Num), // NUM
@@ -41,43 +40,52 @@ pub enum Row {
     Error, // NER, the number of an error
 }
 
-// A line of the table: request data, reply data.
-#[derive(Clone, Copy)]
-pub struct Line(pub Row, pub Row);
+// A line of the table: request data, reply data. In a role in which the table has no such code there is none.
+#[derive(Clone, Copy, Debug, PartialEq, Eq)]
+pub struct Line(pub Option<Row>, pub Option<Row>);
 
-// How many data bytes a row has.
-#[derive(Clone, Copy)]
+// How many data bytes a row has. No `Option<usize>`: a counted row has a length too, so `None` would be no plainer.
+#[derive(Clone, Copy, Debug, PartialEq, Eq)]
 pub enum Length {
     Exactly(usize),
     Counted, // 2 and as many as the second byte says
 }
 
+// A line of a code that has data in both roles.
+fn both(request: Row, reply: Row) -> Line
+    ensures { result ≡ record { 0 = Some request; 1 = Some reply } }
+{
+    Line(Some(request), Some(reply))
+}
+
 // The line of a code. No other place in the source names a code. So a code is added, changed or retired in its line here.
+#[tactic(auto, unfolding(crate::specs::Table::line_of, crate::specs::Table::line_in))]
 fn line_of(code: u8) -> Line
     ensures { result ≡ line_of code }
 {
     match code {
-        0xA1 => Line(Row::Empty, Row::Serial),
-        0xBF => Line(Row::Number(Num::Printers), Row::Status),
-        0xC0 => Line(Row::Empty, Row::Empty),
-        0xCD => Line(Row::Empty, Row::Empty),
-        0xCE => Line(Row::Empty, Row::Empty),
-        0xC2 => Line(Row::Empty, Row::Weight(Load::Net)),
-        0xC3 => Line(Row::Empty, Row::Weight(Load::Gross)),
-        0xC4 => Line(Row::Empty, Row::Inputs),
-        0xC5 => Line(Row::Empty, Row::Outputs),
-        0xC6 => Line(Row::Number(Num::Indicators), Row::Text(Num::Indicators)),
-        0xC7 => Line(Row::Empty, Row::Event),
-        0xCC => Line(Row::Empty, Row::Converter),
-        0xD0 => Line(Row::Outputs, Row::Empty),
-        0xD2 => Line(Row::Text(Num::Devices), Row::Empty),
-        0xEE => Line(Row::Unknown, Row::Error),
-        _ => Line(Row::Unknown, Row::Unknown),
+        0xA1 => both(Row::Empty, Row::Serial),
+        0xBF => both(Row::Number(Num::Printers), Row::Status),
+        0xC0 => both(Row::Empty, Row::Empty),
+        0xCD => both(Row::Empty, Row::Empty),
+        0xCE => both(Row::Empty, Row::Empty),
+        0xC2 => both(Row::Empty, Row::Weight(Load::Net)),
+        0xC3 => both(Row::Empty, Row::Weight(Load::Gross)),
+        0xC4 => both(Row::Empty, Row::Inputs),
+        0xC5 => both(Row::Empty, Row::Outputs),
+        0xC6 => both(Row::Number(Num::Indicators), Row::Text(Num::Indicators)),
+        0xC7 => both(Row::Empty, Row::Event),
+        0xCC => both(Row::Empty, Row::Converter),
+        0xD0 => both(Row::Outputs, Row::Empty),
+        0xD2 => both(Row::Text(Num::Devices), Row::Empty),
+        0xEE => Line(None, Some(Row::Error)),
+        _ => Line(None, None),
     }
 }
 
-// The row of a code in a role.
-pub fn row_of(role: Role, code: u8) -> Row
+// The row of a code in a role, if the table has one. Refusal 6's rule.
+#[tactic(auto, unfolding(crate::specs::Table::row_of))]
+pub fn row_of(role: Role, code: u8) -> Option<Row>
     ensures { result ≡ row_of role code }
 {
     let line = line_of(code);
@@ -87,32 +95,11 @@ pub fn row_of(role: Role, code: u8) -> Row
     }
 }
 
-// Whether there is such a row.
-pub fn in_table(row: Row) -> bool
-    ensures { result ≡ in_table row }
-{
-    match row {
-        Row::Unknown => false,
-        Row::Empty => true,
-        Row::Serial => true,
-        Row::Number(_) => true,
-        Row::Status => true,
-        Row::Weight(_) => true,
-        Row::Inputs => true,
-        Row::Outputs => true,
-        Row::Text(_) => true,
-        Row::Event => true,
-        Row::Converter => true,
-        Row::Error => true,
-    }
-}
-
 // How many data bytes a row has.
 fn length_of(row: Row) -> Length
-    ensures { result ≡ length_of row }
+    ensures { result ≡ length_of (Some row) }
 {
     match row {
-        Row::Unknown => Length::Exactly(0), // 6 comes first
         Row::Empty => Length::Exactly(0),
         Row::Serial => Length::Exactly(3),
         Row::Number(_) => Length::Exactly(1),
@@ -129,16 +116,15 @@ fn length_of(row: Row) -> Length
 
 // Refusal 7's rule.
 pub fn length_right(row: Row, data: &[u8]) -> bool
-    ensures { result ≡ length_right (length_of row) «data».now }
+    ensures { result ≡ length_right (length_of (Some row)) «data».now }
 {
     match length_of(row) {
         Length::Exactly(count) => data.len() == count,
         Length::Counted => {
-            if data.len() < 2 {
+            let Some(&count) = data.get(1) else {
                 return false;
-            }
-            let count = data[1] as usize;
-            data.len() == 2 + count
+            };
+            data.len() == 2 + count as usize
         }
     }
 }
@@ -148,11 +134,8 @@ pub fn is_among(numbers: Num, number: u8) -> bool
     ensures { result ≡ among numbers number }
 {
     match numbers {
-        Num::Printers => (number == 0x03) | (number == 0x13),
-        Num::Indicators => (number == 0x1F) | (number == 0x20) | (number == 0x21),
-        Num::Devices => {
-            let below = (number == 0x01) | (number == 0x02) | (number == 0x03);
-            below | (number == 0x13) | (number == 0x20) | (0xE0 <= number)
-        }
+        Num::Printers => matches!(number, 0x03 | 0x13),
+        Num::Indicators => matches!(number, 0x1F..=0x21),
+        Num::Devices => matches!(number, 0x01..=0x03 | 0x13 | 0x20 | 0xE0..=0xFF),
     }
 }

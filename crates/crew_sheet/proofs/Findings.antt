@@ -1,5 +1,6 @@
 -- Shown: what a finding is worth: each answer is given exactly where the request says.
 -- Why: the answer of the search says of each place whether it passes, and the register can be the power of one place alone.
+use Rattle.std.specs.Prelude.{Result, Ok, Err, Option, Some, None}
 use Prim.Native.Nat.{ℕ, ◌≤◌, ◌<◌}
 use mathlib.Core.Path.{◌≡◌, ◌∙◌, refl, sym, ap, subst}
 use mathlib.Core.Bool.{not, cond}
@@ -14,7 +15,6 @@ use lib.ListN.{length}
 use lib.Bits.{bit_xor, xor_comm, xor_zero_l, xor_self}
 use Rattle.refusal.specs.declared.Refusal.{Refusal}
 use Rattle.refusal.specs.declared.Refusal.TheVariants.{AddressIllegal, LengthOutside, CheckRight}
-use Rattle.refusal.specs.declared.Verdict.TheVariants as verdict_as
 use Rattle.refusal.specs.Numbers.{number_of, refuse_if}
 use Rattle.check_byte.specs.Register.{received}
 use Rattle.body.specs.Addresses.{legal, address_in}
@@ -27,14 +27,13 @@ use Rattle.check_misses.proofs.Numbers.{folded_back, received_below}
 use Rattle.check_misses.proofs.Zeros.{power_some}
 use Rattle.check_misses.proofs.Judged.{short_or_four}
 use Rattle.check_misses.proofs.TurnedOver.{length_turned, check_turned}
-use Rattle.bad_bit.specs.declared.Finding.{Finding}
-use Rattle.bad_bit.specs.declared.Finding.TheVariants.{Bit, NoBit, Refused}
 use Rattle.bad_bit.specs.WhichBit.{passes_with, bit_that_would, finding}
 use Rattle.crew_sheet.specs.Findings.{AskedAndFails, BitTold, NoBitTold, AtMostOne, EachToldExactly, StaysRefused, OneBadTold, TwoBadNotTold, TheRegisterTells}
 use Rattle.crew_sheet.proofs.Searched.{Searched, searched}
 use Rattle.bad_bit.proofs.Asked.{is_outside, is_inside, said_outside, said_right, said_bit}
 use Rattle.crew_sheet.proofs.OnePlace.{passes_power, power_passes, place_inside, powers_differ}
 use Rattle.crew_sheet.proofs.OfRegister.{of_power}
+use Rattle.bad_bit.specs.declared.BitPlace.{BitPlace}
 
 -- ---- one place alone
 
@@ -49,18 +48,17 @@ pub data WhyRefused (body : List ℕ) (why : Refusal) : Type 0 where
   by_length : why ≡ LengthOutside → (length body ≡ 0) ⊎ (31 < length body) → WhyRefused body why
   by_check : why ≡ CheckRight → 1 ≤ length body → length body ≤ 31 → Passes body → WhyRefused body why
 
-abbrev Said : List ℕ → Finding → Type 0
-Said body (Bit place) = AskedAndFails body × ((place.0 < bits_of body) × Passes (turned_over place.0 body))
-Said body NoBit = AskedAndFails body × ((place : ℕ) → Passes (turned_over place body) → ⊥)
-Said body (Refused why) = WhyRefused body why
+abbrev Said : List ℕ → Result (Option BitPlace) Refusal → Type 0
+Said body (Ok (Some place)) = AskedAndFails body × ((place.0 < bits_of body) × Passes (turned_over place.0 body))
+Said body (Ok None) = AskedAndFails body × ((place : ℕ) → Passes (turned_over place body) → ⊥)
+Said body (Err why) = WhyRefused body why
 
 -- of a body that fails, by what the search says
-of_search : (body : List ℕ) → AskedAndFails body → (found : Finding) → Searched (bits_of body) (passes_with body) found → Said body found
+of_search : (body : List ℕ) → AskedAndFails body → (found : Option BitPlace) → Searched (bits_of body) (passes_with body) found → Said body (Ok found)
 unfolding passes_with
-of_search body fails (Bit place) search = (fails, (search.0, eqb-true (received (turned_over place.0 body)) 0 search.1))
-of_search body fails NoBit search =
+of_search body fails (Some place) search = (fails, (search.0, eqb-true (received (turned_over place.0 body)) 0 search.1))
+of_search body fails None search =
     (fails, λ place passes. eqb-false (received (turned_over place body)) 0 (search place (place_inside body fails.fails place passes)) passes)
-of_search body fails (Refused why) search = absurd search
 
 of_fails : (body : List ℕ) → AskedAndFails body → Said body (finding body)
 unfolding bit_that_would
@@ -88,14 +86,14 @@ said body =
       ]
     ]
 
-as_said : (body : List ℕ) (answer : Finding) → finding body ≡ answer → Said body answer
+as_said : (body : List ℕ) (answer : Result (Option BitPlace) Refusal) → finding body ≡ answer → Said body answer
 as_said body answer is = subst (Said body) is (said body)
 
 -- ---- the statements
 
 pub bit_told : BitTold
 bit_told body place is =
-    let told = as_said body (Bit (record { 0 = place })) is in
+    let told = as_said body (Ok (Some (record { 0 = place }))) is in
     let in_body = told.1.0 in
     record {
       in_body = in_body;
@@ -105,27 +103,27 @@ bit_told body place is =
     }
 
 pub no_bit_told : NoBitTold
-no_bit_told body is = (as_said body NoBit is).1
+no_bit_told body is = (as_said body (Ok None) is).1
 
 not_outside : (body : List ℕ) → AskedAndFails body → (length body ≡ 0) ⊎ (31 < length body) → ⊥
 not_outside body fails =
     ⊎_elim (λ (none : length body ≡ 0). omega (arith, none, fails.some)) (λ (over : 31 < length body). omega (arith, over, fails.few))
 
 -- a body that fails and has such a bit: nothing else is said
-only_bit : (body : List ℕ) (place : ℕ) → AskedAndFails body → Passes (turned_over place body) → (answer : Finding) → Said body answer → answer ≡ Bit (record { 0 = place })
-only_bit body place fails passes (Bit other) told =
+only_bit : (body : List ℕ) (place : ℕ) → AskedAndFails body → Passes (turned_over place body) → (answer : Result (Option BitPlace) Refusal) → Said body answer → answer ≡ Ok (Some (record { 0 = place }))
+only_bit body place fails passes (Ok (Some other)) told =
     let same : other.0 ≡ place =
     at_most_one body fails.few other.0 place told.1.0 (place_inside body fails.fails place passes) told.1.1 passes in
-    λ i. Bit (record { 0 = same i })
-only_bit body place fails passes NoBit told = absurd (told.1 place passes)
-only_bit body place fails passes (Refused why) (by_length is out) = absurd (not_outside body fails out)
-only_bit body place fails passes (Refused why) (by_check is some few right) = absurd (fails.fails right)
+    λ i. Ok (Some (record { 0 = same i }))
+only_bit body place fails passes (Ok None) told = absurd (told.1 place passes)
+only_bit body place fails passes (Err why) (by_length is out) = absurd (not_outside body fails out)
+only_bit body place fails passes (Err why) (by_check is some few right) = absurd (fails.fails right)
 
-only_none : (body : List ℕ) → AskedAndFails body → ((place : ℕ) → Passes (turned_over place body) → ⊥) → (answer : Finding) → Said body answer → answer ≡ NoBit
-only_none body fails none (Bit place) told = absurd (none place.0 told.1.1)
-only_none body fails none NoBit told = refl
-only_none body fails none (Refused why) (by_length is out) = absurd (not_outside body fails out)
-only_none body fails none (Refused why) (by_check is some few right) = absurd (fails.fails right)
+only_none : (body : List ℕ) → AskedAndFails body → ((place : ℕ) → Passes (turned_over place body) → ⊥) → (answer : Result (Option BitPlace) Refusal) → Said body answer → answer ≡ Ok None
+only_none body fails none (Ok (Some place)) told = absurd (none place.0 told.1.1)
+only_none body fails none (Ok None) told = refl
+only_none body fails none (Err why) (by_length is out) = absurd (not_outside body fails out)
+only_none body fails none (Err why) (by_check is some few right) = absurd (fails.fails right)
 
 -- a refusal tells which of the two it is
 of_length : (body : List ℕ) {why : Refusal} → why ≡ LengthOutside → WhyRefused body why → (length body ≡ 0) ⊎ (31 < length body)
@@ -143,19 +141,19 @@ one_of_two body (by_check is some few right) = inr is
 pub each_told_exactly : EachToldExactly
 each_told_exactly body = record {
   bit = λ place. (
-    (λ is. let told = as_said body (Bit (record { 0 = place })) is in (told.0, told.1.1)),
+    (λ is. let told = as_said body (Ok (Some (record { 0 = place }))) is in (told.0, told.1.1)),
     (λ both. only_bit body place both.0 both.1 (finding body) (said body)),
   );
-  none = ((λ is. as_said body NoBit is), (λ both. only_none body both.0 both.1 (finding body) (said body)));
+  none = ((λ is. as_said body (Ok None) is), (λ both. only_none body both.0 both.1 (finding body) (said body)));
   outside = (
-    (λ is. of_length body refl (as_said body (Refused LengthOutside) is)),
+    (λ is. of_length body refl (as_said body (Err LengthOutside) is)),
     (λ out. said_outside body (is_outside (length body) out)),
   );
   right = (
-    (λ is. of_check body refl (as_said body (Refused CheckRight) is)),
+    (λ is. of_check body refl (as_said body (Err CheckRight) is)),
     (λ all. said_right body (is_inside (length body) all.0 all.1.0) all.1.1),
   );
-  no_other = λ why is. one_of_two body (as_said body (Refused why) is);
+  no_other = λ why is. one_of_two body (as_said body (Err why) is);
 }
 
 -- ---- what the crew may conclude
@@ -192,7 +190,7 @@ two_bad_not_told sent passes one two h k place is =
 
 -- the place that is told, by the power that the register is
 pub by_place : (body : List ℕ) → AskedAndFails body → (place : ℕ) → place < 255 → received body ≡ power place
-    → finding body ≡ cond (ltb place (bits_of body)) (Bit (record { 0 = place })) NoBit
+    → finding body ≡ cond (ltb place (bits_of body)) (Ok (Some (record { 0 = place }))) (Ok None)
 by_place body fails place h ends =
     elim (dec_le (bits_of body) place) [
       | yes past ↦ rw (le-ltb place (bits_of body) past) (only_none body fails (none past) (finding body) (said body))
@@ -226,4 +224,4 @@ pub stays_refused : StaysRefused
 unfolding judged
 stays_refused body fails =
     let few = fails.few in
-    lent_is body (omega (arith, few)) ∙ rw (ne_eqb (received body) 0 fails.fails) (short_or_four (short body) (refuse_if (not (legal (address_in body))) AddressIllegal verdict_as.Good))
+    lent_is body (omega (arith, few)) ∙ rw (ne_eqb (received body) 0 fails.fails) (short_or_four (short body) (refuse_if (not (legal (address_in body))) AddressIllegal (Ok tt)))

@@ -1,5 +1,6 @@
 -- Shown: after refusal 4 the first `kept` bytes of the array are the body that failed, of `take`, `feed`, `listen` and a walker's step; of 31 bytes at most it is asked.
 -- Why: only a body that has ended is refused by 4. Its bytes stood at the array's front, and the listener, now Delimited, laid none over them.
+use Rattle.std.specs.Prelude.{Result, Ok, Err, Option, Some, None}
 use Prim.Native.Nat.{ℕ, suc, ◌+◌, ◌-◌}
 use mathlib.Core.Path.{◌≡◌, ◌∙◌, refl, sym, ap, subst}
 use mathlib.Core.Bool.{Bool, true, false, not}
@@ -13,8 +14,6 @@ use lib.Dec.{ltb, eqb, lit≤}
 use lib.ListN.{length, take, drop}
 use Rattle.refusal.specs.declared.Refusal.{Refusal}
 use Rattle.refusal.specs.declared.Refusal.TheVariants.{BodyShort, BodyLong, HeldBroken, CheckWrong, AddressIllegal}
-use Rattle.refusal.specs.declared.Verdict.{Verdict}
-use Rattle.refusal.specs.declared.Verdict.TheVariants as verdict_as
 use Rattle.refusal.specs.Numbers.{number_of, verdict_number, refuse_if}
 use Rattle.check_byte.specs.Register.{received}
 use Rattle.body.specs.Addresses.{legal, address_in}
@@ -34,11 +33,9 @@ use Rattle.line.specs.Listener.{State, seeking, delimited, inside, held, Heard, 
 use Rattle.line.specs.Readers.{listening, view, place_of, kept_of, event_of, taken, unless, fed_from, fed, fed_lent}
 use Rattle.line.proofs.EveryStep.{either}
 use Rattle.line.proofs.Joined.{kept_front, joined}
-use Rattle.capture_walker.specs.declared.stepping.Next.{Next}
-use Rattle.capture_walker.specs.declared.stepping.Next.TheVariants as next_as
 use Rattle.capture_walker.specs.declared.stepping.Stepped.{Stepped}
 use Rattle.capture_walker.specs.declared.walking.Walked.{Walked}
-use Rattle.capture_walker.specs.Walking.{start_at, next_of, step_from}
+use Rattle.capture_walker.specs.Walking.{start_at, step_from}
 use Rattle.capture_walker.proofs.AtRest.{at_start}
 use Rattle.capture_walker.proofs.OneStep.{step_ends, step_hears}
 use Rattle.crew_sheet.specs.HandedOn.{BodyThatFailed, AfterListen, AfterFeed, AfterTake, AfterStep, AfterWalkerStep, HandedOn}
@@ -52,7 +49,7 @@ pub record Ends (state : State) (byte : ℕ) (next : State) (kept : ℕ) : Type 
   pub was_held : state ≡ held body
   pub by : byte ≡ 0xFF
   pub whole : length body ≡ kept
-  pub failed : judged body ≡ verdict_as.Refused CheckWrong
+  pub failed : judged body ≡ Err CheckWrong
   pub empty : kept_of next ≡ []
 
 abbrev IfFour : State → ℕ → State → Heard → Type 0
@@ -70,11 +67,11 @@ to_keep : (state : State) (byte : ℕ) (kept : List ℕ) (more wire : ℕ) → F
 unfolding keep
 to_keep state byte kept more wire = either (Four state byte) (ltb (length kept) longest) _ _ (λ _. tt) (λ _. not_four BodyLong (λ (e : 2 ≡ 4). omega (arith, e)))
 
-at_end : (kept : List ℕ) (byte wire : ℕ) → byte ≡ 0xFF → (verdict : Verdict) → judged kept ≡ verdict → Four (held kept) byte (step delimited wire (ended verdict kept wire))
+at_end : (kept : List ℕ) (byte wire : ℕ) → byte ≡ 0xFF → (verdict : Result (Unit {0}) Refusal) → judged kept ≡ verdict → Four (held kept) byte (step delimited wire (ended verdict kept wire))
 unfolding ended
-at_end kept byte wire by verdict_as.Good is = tt
-at_end kept byte wire by (verdict_as.Refused why) is =
-    λ four. record { body = kept; was_held = refl; by = by; whole = refl; failed = is ∙ ap verdict_as.Refused four; empty = refl }
+at_end kept byte wire by (Ok tt) is = tt
+at_end kept byte wire by (Err why) is =
+    λ four. record { body = kept; was_held = refl; by = by; whole = refl; failed = is ∙ ap Err four; empty = refl }
 
 four_in_lem : (state : State) (byte wire : ℕ) → Four state byte (hear_in state byte wire)
 unfolding hear_in
@@ -89,17 +86,17 @@ four_in_lem (held kept) byte wire =
     (λ _. not_four HeldBroken (λ (e : 3 ≡ 4). omega (arith, e))))
 
 -- the same of an event that is handed back
-abbrev IfEventFour : State → ℕ → State → Event → Type 0
-IfEventFour state byte next event_as.Nothing = Unit {0}
-IfEventFour state byte next (event_as.Frame wire kept) = Unit {0}
-IfEventFour state byte next (event_as.Refused why wire kept) = why ≡ CheckWrong → Ends state byte next kept.0
+abbrev IfEventFour : State → ℕ → State → Option Event → Type 0
+IfEventFour state byte next None = Unit {0}
+IfEventFour state byte next (Some (event_as.Frame wire kept)) = Unit {0}
+IfEventFour state byte next (Some (event_as.Refused why wire kept)) = why ≡ CheckWrong → Ends state byte next kept.0
 
 handed_back : (state : State) (byte : ℕ) (next : State) (heard : Heard) → IfFour state byte next heard → IfEventFour state byte next (event_of heard)
 handed_back state byte next nothing four = tt
 handed_back state byte next (frame wire kept body) four = tt
 handed_back state byte next (refused why wire kept) four = four
 
-ends_at : (reader : Reader) (byte : ℕ) (wire : WirePlace) (kept : BodyPlace) → (taken reader byte).event ≡ event_as.Refused CheckWrong wire kept
+ends_at : (reader : Reader) (byte : ℕ) (wire : WirePlace) (kept : BodyPlace) → (taken reader byte).event ≡ Some (event_as.Refused CheckWrong wire kept)
     → Ends (view reader).state byte (hear (view reader) byte).next.state kept.0
 unfolding taken hear
 ends_at reader byte wire kept is =
@@ -108,7 +105,7 @@ ends_at reader byte wire kept is =
     subst (IfEventFour state byte heard.next.state) is (handed_back state byte heard.next.state heard.event (four_in_lem state byte (tick (view reader).wire))) refl
 
 -- the body that ended stands at the array's front, in the array handed back too
-one_byte : (reader : Reader) (byte : ℕ) (block : List ℕ) (wire : WirePlace) (kept : BodyPlace) → (taken reader byte).event ≡ event_as.Refused CheckWrong wire kept
+one_byte : (reader : Reader) (byte : ℕ) (block : List ℕ) (wire : WirePlace) (kept : BodyPlace) → (taken reader byte).event ≡ Some (event_as.Refused CheckWrong wire kept)
     → BodyThatFailed (view reader) (byte ∷ block) 1 kept.0 (taken reader byte).reader.body
 unfolding taken after
 one_byte reader byte block wire kept is =
@@ -154,25 +151,24 @@ pub record FailedFrom (used : ℕ) (listener : Listener) (block : List ℕ) (kep
   pub counts : answer.used ≡ used + suc before_last
   pub failed : BodyThatFailed listener block (suc before_last) kept.0 answer.reader.body
 
-abbrev IsNothing : Event → Type 0
-IsNothing event_as.Nothing = Unit {0}
-IsNothing (event_as.Frame wire kept) = ⊥
-IsNothing (event_as.Refused why wire kept) = ⊥
+abbrev IsNothing : Option Event → Type 0
+IsNothing None = Unit {0}
+IsNothing (Some event) = ⊥
 
 module _ (wire : WirePlace) (kept : BodyPlace) where
-  abbrev IsFour : Event → Type 0
-  IsFour event = event ≡ event_as.Refused CheckWrong wire kept
+  abbrev IsFour : Option Event → Type 0
+  IsFour event = event ≡ Some (event_as.Refused CheckWrong wire kept)
 
-  at_byte : (used : ℕ) (reader : Reader) (byte : ℕ) (block : List ℕ) (event : Event) → (taken reader byte).event ≡ event → IsFour event
+  at_byte : (used : ℕ) (reader : Reader) (byte : ℕ) (block : List ℕ) (event : Option Event) → (taken reader byte).event ≡ event → IsFour event
       → FailedFrom used (view reader) (byte ∷ block) kept (record { reader = (taken reader byte).reader; event = event; used = used + 1 })
   at_byte used reader byte block event told is =
       record { before_last = 0; counts = refl; failed = one_byte reader byte block wire kept (told ∙ is) }
 
   by_event : (used : ℕ) (reader : Reader) (byte : ℕ) (block : List ℕ) (later : Fed) → (IsFour later.event → FailedFrom (used + 1) (hear (view reader) byte).next block kept later)
-      → (event : Event) → (taken reader byte).event ≡ event
+      → (event : Option Event) → (taken reader byte).event ≡ event
       → IsFour (unless event later (record { reader = (taken reader byte).reader; event = event; used = used + 1 })).event
       → FailedFrom used (view reader) (byte ∷ block) kept (unless event later (record { reader = (taken reader byte).reader; event = event; used = used + 1 }))
-  by_event used reader byte block later sooner event_as.Nothing told is =
+  by_event used reader byte block later sooner None told is =
       let failed = sooner is in
       let more : used + 1 + suc failed.before_last ≡ used + suc (suc failed.before_last) = omega arith in
       record {
@@ -180,8 +176,8 @@ module _ (wire : WirePlace) (kept : BodyPlace) where
         counts = failed.counts ∙ more;
         failed = one_sooner (view reader) byte block failed.before_last kept.0 later.reader.body failed.failed;
       }
-  by_event used reader byte block later sooner (event_as.Frame wire' kept') told is = at_byte used reader byte block (event_as.Frame wire' kept') told is
-  by_event used reader byte block later sooner (event_as.Refused why wire' kept') told is = at_byte used reader byte block (event_as.Refused why wire' kept') told is
+  by_event used reader byte block later sooner (Some (event_as.Frame wire' kept')) told is = at_byte used reader byte block (Some (event_as.Frame wire' kept')) told is
+  by_event used reader byte block later sooner (Some (event_as.Refused why wire' kept')) told is = at_byte used reader byte block (Some (event_as.Refused why wire' kept')) told is
 
   failed_from : (used : ℕ) (reader : Reader) (block : List ℕ) → IsFour (fed_from used reader block).event → FailedFrom used (view reader) block kept (fed_from used reader block)
   unfolding fed_from
@@ -205,7 +201,7 @@ after_feed reader block answered feeds wire kept is =
 
 -- with the array lent: where it has 255 bytes it is fed, and a list of another length gives no event
 lent : (place : Place) (block before : List ℕ) (wire : WirePlace) (kept : BodyPlace) (full : Bool) → eqb (length before) longest ≡ full
-    → (fed_lent place block before).event ≡ event_as.Refused CheckWrong wire kept
+    → (fed_lent place block before).event ≡ Some (event_as.Refused CheckWrong wire kept)
     → BodyThatFailed (listening place before) block (fed_lent place block before).used kept.0 (fed_lent place block before).reader.body
 unfolding fed_lent
 lent place block before wire kept true is four = rw is (failed_fed wire kept (record { place = place; body = before }) block (rw is at four))
@@ -218,30 +214,17 @@ after_listen place block before answered left listens wire kept is =
 
 -- ---- a capture that is walked
 
--- the event that a step tells; of an end none
-told_by : Next → Event
-told_by next_as.End = event_as.Nothing
-told_by (next_as.Event event) = event
-
-told_of : (event : Event) → told_by (next_of event) ≡ event
-unfolding told_by
-told_of event_as.Nothing = refl
-told_of (event_as.Frame wire kept) = refl
-told_of (event_as.Refused why wire kept) = refl
-
 -- a step that tells refusal 4
 walked : (block : List ℕ) (place : ℕ) (before : List ℕ) (wire : WirePlace) (kept : BodyPlace)
-    → (step_from block place before).answer.next ≡ next_as.Event (event_as.Refused CheckWrong wire kept)
+    → (step_from block place before).answer.next ≡ Some (event_as.Refused CheckWrong wire kept)
     → BodyThatFailed (start_at block place) (drop place block) ((step_from block place before).answer.place - place) kept.0 (step_from block place before).body
-unfolding told_by
 walked block place before wire kept is =
-    let told : told_by (step_from block place before).answer.next ≡ event_as.Refused CheckWrong wire kept = ap told_by is in
     elim (dec_le (length block) place) [
-      | yes past ↦ absurd (subst IsNothing (rw (step_ends block place before past) at told) tt)
+      | yes past ↦ absurd (subst IsNothing (rw (step_ends block place before past) at is) tt)
       | no within ↦
           let hears = step_hears block place before (lt_of_not-le within) in
           let heard = fed_lent (place_of (start_at block place)) (drop place block) before in
-          let four : heard.event ≡ event_as.Refused CheckWrong wire kept = sym (told_of heard.event) ∙ rw hears at told in
+          let four : heard.event ≡ Some (event_as.Refused CheckWrong wire kept) = rw hears at is in
           let many : place + heard.used - place ≡ heard.used = omega arith in
           rw (hears, many)
           (subst (λ (l : Listener). BodyThatFailed l (drop place block) heard.used kept.0 heard.reader.body) (at_start block place before)
@@ -260,7 +243,7 @@ after_walker_step walker before answered left steps wire kept is =
 -- ---- handed on
 
 -- a chain that is refused by 4 passed the test ahead, and failed the check
-refused_by_four : (a b c : Bool) → refuse_if a BodyShort (refuse_if (not b) CheckWrong (refuse_if c AddressIllegal verdict_as.Good)) ≡ verdict_as.Refused CheckWrong
+refused_by_four : (a b c : Bool) → refuse_if a BodyShort (refuse_if (not b) CheckWrong (refuse_if c AddressIllegal (Ok tt))) ≡ Err CheckWrong
     → (a ≡ false) × (b ≡ false)
 refused_by_four true b c is = absurd (omega (arith, ap verdict_number is))
 refused_by_four false false c is = (refl, refl)

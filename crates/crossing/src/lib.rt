@@ -3,11 +3,9 @@
 #![tactic(auto)]
 
 mod events;
-mod families;
 mod roles;
 mod writing;
 
-pub use events::{Given, QuayEvent, event_from};
-pub use families::{FamilySaid, family_from};
-pub use roles::{Asked, role_from};
-pub use writing::{QuayWritten, written_out};
+pub use events::{QuayEvent, event_from};
+pub use roles::role_from;
+pub use writing::QuayWritten;

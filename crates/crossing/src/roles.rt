@@ -5,20 +5,15 @@ ghost use Rattle.crossing.specs.Roles.{role_from};
 use codes::Role;
 use refusal::Refusal;
 
-// A role that was handed in, or why it is no role.
-#[derive(Clone, Copy)]
-pub enum Asked {
-    Role(Role),
-    Refused(Refusal),
-}
-
 // 0 is a request, 1 a reply; any other number is refused by 8.
-pub fn role_from(number: u8) -> Asked
+// A function: `Role` is declared in `codes`, so no `TryFrom<u8>` of it can stand here.
+#[tactic(auto, unfolding(crate::specs::Roles::role_from))]
+pub fn role_from(number: u8) -> Result<Role, Refusal>
     ensures { result ≡ role_from number }
 {
     match number {
-        0 => Asked::Role(Role::Request),
-        1 => Asked::Role(Role::Reply),
-        _ => Asked::Refused(Refusal::FieldOutside),
+        0 => Ok(Role::Request),
+        1 => Ok(Role::Reply),
+        _ => Err(Refusal::FieldOutside),
     }
 }

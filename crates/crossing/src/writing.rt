@@ -1,34 +1,28 @@
 // The answer of a write as numbers.
 ghost use Rattle.std.specs.Prelude.{◌≡◌};
-ghost use Rattle.refusal.specs.Numbers.{verdict_number};
 ghost use Rattle.crossing.specs.Writing.{written_out};
 
-use refusal::{Verdict, number};
-use room::Written;
+use refusal::Refusal;
 
 // What a write answers: its own length, or length 0 beside the refusal's number. A refused write leaves every lent byte as it stood.
+// A length with a refusal's number beside: C has no `Result`, and this struct's layout is its interface.
 #[repr(C)]
-#[derive(Clone, Copy)]
+#[derive(Clone, Copy, Debug, PartialEq, Eq)]
 pub struct QuayWritten {
     pub length: usize,
     pub refusal: u8,
 }
 
-fn verdict_number(verdict: Verdict) -> u8
-    ensures { result ≡ verdict_number verdict }
-{
-    match verdict {
-        Verdict::Good => 0,
-        Verdict::Refused(why) => number(why),
-    }
-}
+impl From<Result<usize, Refusal>> for QuayWritten {
+    ghost from_gives = { λ written answered. answered ≡ written_out written };
 
-pub fn written_out(written: Written) -> QuayWritten
-    ensures { result ≡ written_out written }
-{
-    let verdict = written.verdict;
-    QuayWritten {
-        length: written.length,
-        refusal: verdict_number(verdict),
+    fn from(written: Result<usize, Refusal>) -> QuayWritten {
+        match written {
+            Ok(length) => QuayWritten { length, refusal: 0 },
+            Err(why) => QuayWritten {
+                length: 0,
+                refusal: u8::from(why),
+            },
+        }
     }
 }

@@ -6,6 +6,7 @@ use mathlib.Core.List.{List, [], ◌∷◌, ◌++◌, append_assoc, append-nil}
 use native.Mathlib.Omega.{arith}
 use lib.ListN.{length, drop, replicate, length-append, length-replicate}
 use lib.Seq.{drop-nil}
+use Rattle.std.proofs.lemmas.Grind.{common_steps}
 use Rattle.frame.specs.Stuffing.{stuffed}
 use Rattle.line.specs.Listener.{Heard, frame, State, delimited, events}
 use Rattle.demands.specs.Stops.{AtRest}
@@ -35,9 +36,7 @@ on_wire_ahead sent rest = simp append_assoc
 pub heard_whole : (sent : Sent) → Shared sent → (n m : ℕ) (rest : List ℕ) → n + size sent + sent.behind ≡ m
     → events (at delimited n) (stuffed sent.body ++ (replicate sent.behind 0xFF ++ rest))
     ≡ told sent (n + size sent + 2) ∷ events (at delimited m) rest
-heard_whole sent shared n m rest e =
-    whole (stuff sent.body) shared.good shared.most sent.behind n rest shared.behind
-    ∙ ap (λ (k : ℕ). told sent (n + size sent + 2) ∷ events (at delimited k) rest) e
+heard_whole sent shared n m rest e = grind (arith, common_steps, stuff, whole)
 
 all_heard : (list : List Sent) → AllShared list → (n m : ℕ) (rest : List ℕ) → n + length (wire_of list) ≡ m
     → events (at delimited n) (wire_of list ++ rest) ≡ frames_of n list ++ events (at delimited m) rest
@@ -45,12 +44,7 @@ unfolding wire_of frames_of
 all_heard [] shared n m rest e =
     let same : n ≡ m = omega arith in
     rw same
-all_heard (sent ∷ list) (shared, others) n m rest e =
-    ap (events (at delimited n)) (append_assoc (on_wire sent) (wire_of list) rest ∙ on_wire_ahead sent (wire_of list ++ rest))
-    ∙ delimited_run sent.ahead n (n + sent.ahead) _ refl
-    ∙ heard_whole sent shared (n + sent.ahead) (n + length (on_wire sent)) (wire_of list ++ rest) (omega (arith, length_on_wire sent))
-    ∙ ap (λ (later : List Heard). told sent (n + sent.ahead + size sent + 2) ∷ later)
-    (all_heard list others (n + length (on_wire sent)) m rest (omega (arith, length-append (on_wire sent) (wire_of list))))
+all_heard (sent ∷ list) (shared, others) n m rest e = grind (arith, common_steps, at, delimited_run, heard_whole, length-append, length_on_wire, on_wire_ahead, all_heard list others (n + length (on_wire sent)) m rest (omega (arith, length-append (on_wire sent) (wire_of list))))
 
 -- bytes of which who is between two bodies hears nothing, from whichever of them on
 abbrev pub Quiet : List ℕ → Type 0

@@ -5,7 +5,8 @@ use mathlib.Core.Path.{◌≡◌, ◌∙◌, refl, sym, ap, subst}
 use mathlib.Core.List.{List, [], ◌∷◌, ◌++◌, append_assoc}
 use native.Mathlib.Omega.{arith}
 use lib.ListN.{length, take, drop, get_or, length-append, length-drop}
-use lib.Seq.{slice, get_or-drop, get_or-append_seam, length-take-le, take-add, take_at, drop_at}
+use lib.Seq.{slice, take-add, take_at}
+use Rattle.std.proofs.lemmas.Grind.{common_steps}
 use Rattle.line.specs.Listener.{State, Heard, nothing, frame, refused, Listener, hear, after, tick}
 use Rattle.line.proofs.EveryStep.{every_told}
 use Rattle.capture_walker.specs.Walking.{state_behind, start_at}
@@ -38,13 +39,11 @@ wired listener byte = every_told (Wired (tick listener.wire)) listener byte tt r
 
 counts_wire : (heard : Heard) (taken : ℕ) → (heard ≡ nothing → ⊥) → Wired taken heard → CountsWire taken heard
 unfolding Wired
-counts_wire nothing taken some counts = absurd (some refl)
-counts_wire (frame wire kept body) taken some counts = counts
-counts_wire (refused why wire kept) taken some counts = counts
+counts_wire heard taken some counts = grind (arith, common_steps)
 
 -- a part of a list is the front of what stands behind its start
 slice_front : (from count : ℕ) (l : List ℕ) → from ≤ length l → slice from (from + count) l ≡ take count (drop from l)
-slice_front from count l fits = ap (drop from) (take-add from count l) ∙ drop_at (take from l) (take count (drop from l)) from (length-take-le from l fits)
+slice_front from count l fits = grind (arith, common_steps, take-add)
 
 module _ (block : List ℕ) (place : ℕ) (before : List ℕ) (byte : ℕ) (later : List ℕ) (cut : drop place block ≡ before ++ (byte ∷ later)) where
   abbrev behind : ℕ
@@ -54,9 +53,7 @@ module _ (block : List ℕ) (place : ℕ) (before : List ℕ) (byte : ℕ) (late
   there = after (start_at block place) before
 
   byte_there : get_or block (behind - 1) 0 ≡ byte
-  byte_there =
-      let one_less : behind - 1 ≡ place + length before = omega arith in
-      ap (λ (p : ℕ). get_or block p 0) one_less ∙ sym (get_or-drop place block (length before) 0) ∙ ap (λ (l : List ℕ). get_or l (length before) 0) cut ∙ get_or-append_seam before byte later 0
+  byte_there = grind (arith, common_steps)
 
   wire_there : behind % 2 ^ 64 ≡ tick there.wire
   wire_there = omega (arith, ticks (start_at block place) before, start_wire block place)

@@ -1,6 +1,6 @@
 -- Shown: that an FF went by before a frame's first address byte is that one joined before that byte; so `heard_of` goes by places alone.
 -- Why: the byte right ahead of it is an FF, its own or one behind the frame before; ahead of the first frame may stand none.
-use Prim.Native.Nat.{ℕ, zero, suc, ◌+◌, ◌-◌, ◌≤◌, ◌<◌}
+use Prim.Native.Nat.{ℕ, zero, suc, ◌+◌, ◌-◌, ◌≤◌}
 use mathlib.Core.Path.{◌≡◌, ◌∙◌, refl, sym, ap, ap₂}
 use mathlib.Core.Bool.{Bool, true, cond, or-true}
 use mathlib.Core.List.{List, [], ◌∷◌, ◌++◌, append_assoc, append-nil}
@@ -9,8 +9,9 @@ use native.Mathlib.Decide.{dec_le}
 use native.Mathlib.Nat.{lt_of_not-le}
 use borrow.Author.Tests.{lt-ltb, le-ltb}
 use lib.ListN.{length, drop, replicate, length-append, length-replicate, drop_of_length-le}
-use lib.Seq.{slice, take_at, drop-nil, drop-append-le}
+use lib.Seq.{slice, drop-nil, drop-append-le}
 use lib.Dec.{ltb}
+use Rattle.std.proofs.lemmas.Grind.{common_steps}
 use Rattle.frame.specs.Stuffing.{stuffed}
 use Rattle.line.specs.Listener.{Heard}
 use Rattle.demands.specs.Wire.{Sent, Shared, AllShared, on_wire, wire_of, any_ff, heard_of, frames_of}
@@ -47,17 +48,11 @@ ends_in_ff (byte ∷ bytes) = rw (ends_in_ff bytes, or-true)
 went_by : {front : List ℕ} → Closed front → (joined : ℕ) → any_ff (drop joined front) ≡ ltb joined (length front)
 unfolding any_ff
 went_by none joined = rw (drop-nil, le-ltb joined 0 (omega arith))
-went_by (ff front) joined = elim (dec_le (length (front ++ (0xFF ∷ []))) joined) [
-  | yes past ↦ rw (drop_of_length-le (front ++ (0xFF ∷ [])) past, le-ltb joined (length (front ++ (0xFF ∷ []))) past)
-  | no still ↦
-      let before : joined < length (front ++ (0xFF ∷ [])) = lt_of_not-le still in
-      let upto : joined ≤ length front = omega (arith, length-append front (0xFF ∷ [])) in
-      rw (lt-ltb joined (length (front ++ (0xFF ∷ []))) before, drop-append-le joined front (0xFF ∷ []) upto) (ends_in_ff (drop joined front))
-]
+went_by (ff front) joined = grind (arith, common_steps, dec_le, drop-append-le, drop_of_length-le, ends_in_ff, le-ltb, length-append, lt-ltb, lt_of_not-le)
 
 first_of_frame : {front : List ℕ} → Closed front → (rest bytes : List ℕ) (joined first : ℕ) → length front ≡ first → bytes ≡ front ++ rest
     → any_ff (slice joined first bytes) ≡ ltb joined first
-first_of_frame {front} closed rest bytes joined first here e = rw (e, take_at front rest first here, went_by closed joined, here)
+first_of_frame closed rest bytes joined first here e = grind (arith, common_steps, went_by)
 
 frame_closes : (sent : Sent) → Shared sent → (before : List ℕ) → Closed (before ++ on_wire sent)
 unfolding on_wire
@@ -80,9 +75,4 @@ by_places (sent ∷ list) (shared, others) {before} closed rest bytes joined sta
 pub behind_all : (list : List Sent) (joined start taken : ℕ) → joined + taken ≡ start → 1 ≤ taken → behind_of joined start list ≡ frames_of taken list
 unfolding behind_of frames_of
 behind_all [] joined start taken e some = refl
-behind_all (sent ∷ list) joined start taken e some =
-    let still : joined < start + sent.ahead = omega arith in
-    let end : start + sent.ahead + size sent + 2 - joined ≡ taken + sent.ahead + size sent + 2 = omega arith in
-    rw (lt-ltb joined (start + sent.ahead) still, end)
-    (ap (λ (later : List Heard). told sent (taken + sent.ahead + size sent + 2) ∷ later)
-    (behind_all list joined (start + length (on_wire sent)) (taken + length (on_wire sent)) (omega arith) (omega arith)))
+behind_all (sent ∷ list) joined start taken e some = grind (arith, common_steps, lt-ltb, size, told, behind_all list joined (start + length (on_wire sent)) (taken + length (on_wire sent)) (omega arith) (omega arith))

@@ -1,5 +1,6 @@
 -- Shown: what one byte does in each of the four states, as equations of `events`, and what a run of FFs does.
 -- Why: each is the paper's rule for that state, read off; the wire count turns at 2^64 in one lemma and is a plain number elsewhere.
+use Rattle.std.specs.Prelude.{Ok}
 use Prim.Native.Nat.{ℕ, zero, suc, ◌+◌, ◌%◌, ◌^◌, ◌≤◌, ◌<◌}
 use mathlib.Core.Path.{◌≡◌, ◌∙◌, ap}
 use mathlib.Core.Bool.{false}
@@ -10,7 +11,7 @@ use native.Mathlib.Numerals.{add-one}
 use borrow.Author.Tests.{lt-ltb}
 use lib.ListN.{length, replicate}
 use lib.Dec.{eqb}
-use Rattle.refusal.specs.declared.Verdict.TheVariants.{Good}
+use Rattle.std.proofs.lemmas.Grind.{common_steps}
 use Rattle.body.specs.Body.{judged}
 use Rattle.line.specs.Listener.{Heard, frame, State, seeking, delimited, inside, held, Listener, Step, tick, keep, ended, hear, hear_in, heard_then, events}
 
@@ -62,14 +63,14 @@ module _ (n : ℕ) (rest : List ℕ) where
   pub inside_other : (kept : List ℕ) (byte : ℕ) → eqb byte 0xFF ≡ false → length kept < 255
       → events (at (inside kept) n) (byte ∷ rest) ≡ events (at (inside (kept ++ (byte ∷ []))) (suc n)) rest
   unfolding hear_in heard_then keep
-  inside_other kept byte other room = one_byte (inside kept) n byte rest ∙ rw (other, lt-ltb (length kept) 255 room)
+  inside_other kept byte other room = grind (arith, common_steps, one_byte)
 
   pub held_fe : (kept : List ℕ) → length kept < 255
       → events (at (held kept) n) (0xFE ∷ rest) ≡ events (at (inside (kept ++ (0xFF ∷ []))) (suc n)) rest
   unfolding hear_in heard_then keep
   held_fe kept room = one_byte (held kept) n 0xFE rest ∙ rw (lt-ltb (length kept) 255 room)
 
-  pub held_ff : (kept : List ℕ) → judged kept ≡ Good
+  pub held_ff : (kept : List ℕ) → judged kept ≡ Ok tt
       → events (at (held kept) n) (0xFF ∷ rest) ≡ frame (clock (suc n)) (length kept) kept ∷ events (at delimited (suc n)) rest
   unfolding hear_in heard_then ended
   held_ff kept good = one_byte (held kept) n 0xFF rest ∙ rw good
@@ -77,12 +78,9 @@ module _ (n : ℕ) (rest : List ℕ) where
 -- a run of FFs: m is the clock behind it
 pub delimited_run : (count n m : ℕ) (rest : List ℕ) → n + count ≡ m
     → events (at delimited n) (replicate count 0xFF ++ rest) ≡ events (at delimited m) rest
-delimited_run zero n m rest e =
-    let same : n ≡ m = omega arith in
-    ap (λ (k : ℕ). events (at delimited k) rest) same
+delimited_run zero n m rest e = grind (arith, common_steps)
 delimited_run (suc count) n m rest e = delimited_ff n (replicate count 0xFF ++ rest) ∙ delimited_run count (suc n) m rest (omega arith)
 
 pub seeking_run : (count n m : ℕ) (rest : List ℕ) → 1 ≤ count → n + count ≡ m
     → events (at seeking n) (replicate count 0xFF ++ rest) ≡ events (at delimited m) rest
-seeking_run zero n m rest some e = absurd (omega arith)
-seeking_run (suc count) n m rest some e = seeking_ff n (replicate count 0xFF ++ rest) ∙ delimited_run count (suc n) m rest (omega arith)
+seeking_run count n m rest some e = grind (arith, common_steps, delimited_run, seeking_ff)

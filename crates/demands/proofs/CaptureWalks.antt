@@ -1,5 +1,6 @@
 -- Shown: all steps of a walk tell what the byte-fed reader hears, from the start and from any place, and then "end" for ever; demand 3 holds of it.
 -- Why: a step hears the rest of the block up to its first event, and behind an event a walk starts where the reader stands.
+use Rattle.std.specs.Prelude.{Option, Some, None}
 use Prim.Native.Nat.{ℕ, zero, suc, ◌+◌, ◌-◌, ◌≤◌, ◌<◌}
 use mathlib.Core.Path.{◌≡◌, ◌∙◌, refl, sym, ap, subst}
 use mathlib.Core.Bool.{Bool, true, false}
@@ -7,21 +8,21 @@ use mathlib.Core.List.{List, [], ◌∷◌, ◌++◌, append_assoc}
 use native.Mathlib.Omega.{arith}
 use borrow.Author.Tests.{leb-true, leb-false}
 use lib.Dec.{leb}
-use lib.ListN.{length, drop, length-drop, drop_of_length-le, length-append, get_or-append}
+use lib.ListN.{length, drop, length-drop, drop_of_length-le, length-append}
 use lib.Seq.{drop-append-le, drop-drop, drop_at}
+use Rattle.std.proofs.lemmas.Grind.{common_steps}
 use Rattle.body.specs.Body.{longest}
 use Rattle.line.specs.declared.places.Event.{Event}
-use Rattle.line.specs.declared.places.Event.TheVariants.{Nothing, Frame, Refused}
+use Rattle.line.specs.declared.places.Event.TheVariants.{Frame, Refused}
 use Rattle.line.specs.declared.reading.Reader.{Reader}
 use Rattle.line.specs.declared.reading.Fed.{Fed}
 use Rattle.line.specs.Listener.{Heard, nothing, Listener, fresh, hear, heard_then, events, after}
 use Rattle.line.specs.Readers.{view, place_of, heard_as, taken, fed}
-use Rattle.line.proofs.Blocks.{standing}
+use Rattle.line.proofs.Blocks.{standing, lent_full}
 use Rattle.line.proofs.Joined.{joined, told}
-use Rattle.capture_walker.specs.declared.stepping.Next.TheVariants as next_as
-use Rattle.capture_walker.specs.Walking.{start_at, next_of, StepTaken, said_end, after_hearing, step_from}
+use Rattle.capture_walker.specs.Walking.{start_at, StepTaken, said_end, after_hearing, step_from}
 use Rattle.capture_walker.proofs.AtRest.{at_start}
-use Rattle.capture_walker.proofs.OneStep.{lent_full, step_ends, step_hears}
+use Rattle.capture_walker.proofs.OneStep.{step_ends, step_hears}
 use Rattle.capture_walker.proofs.WithinReach.{no_further}
 use Rattle.demands.specs.Reading.{after_bytes}
 use Rattle.demands.specs.Wire.{wire_of}
@@ -36,18 +37,12 @@ use Rattle.demands.proofs.Reading.{every_block, hears_as_listener, heard_fresh}
 
 data OneStep (block : List ℕ) (place : ℕ) (lent : List ℕ) : Type 0 where
   no_more : (body : List ℕ) → step_from block place lent ≡ said_end (end_from block place) body → events (start_at block place) (drop place block) ≡ [] → OneStep block place lent
-  one_more : (event : Event) (behind : ℕ) (body : List ℕ) → step_from block place lent ≡ met event behind body → MovedOn block place (heard_as event body) behind
-      → events (start_at block place) (drop place block) ≡ heard_as event body ∷ events (start_at block behind) (drop behind block) → OneStep block place lent
+  one_more : (event : Event) (behind : ℕ) (body : List ℕ) → step_from block place lent ≡ met event behind body → MovedOn block place (heard_as (Some event) body) behind
+      → events (start_at block place) (drop place block) ≡ heard_as (Some event) body ∷ events (start_at block behind) (drop behind block) → OneStep block place lent
 
 -- the end of a walk from within its block, or from behind its last byte
 end_within : (block : List ℕ) (place : ℕ) → place ≤ length block → end_from block place ≡ length block
-end_within block place within = by_test (leb (length block) place) refl
-  where
-    by_test : (test : Bool) → leb (length block) place ≡ test → end_from block place ≡ length block
-    by_test true at_end =
-        let past = leb-true (length block) place at_end in
-        rw at_end (omega arith)
-    by_test false more = rw more
+end_within block place within = grind (arith, common_steps)
 
 module _ (block : List ℕ) (place : ℕ) (lent : List ℕ) (full : length lent ≡ longest) (within : place < length block) where
   abbrev reader : Reader
@@ -60,54 +55,52 @@ module _ (block : List ℕ) (place : ℕ) (lent : List ℕ) (full : length lent 
   answer = fed reader rest
 
   step_is : step_from block place lent ≡ after_hearing place answer
-  step_is = step_hears block place lent within ∙ ap (after_hearing place) (lent_full (place_of (start_at block place)) rest lent full)
+  step_is = grind (arith, common_steps, lent_full, step_hears)
 
   tells : events (start_at block place) rest ≡ heard_then (heard_as answer.event answer.reader.body) (events (view answer.reader) (drop answer.used rest))
-  tells =
-      ap (λ (l : Listener). events l rest) (sym (at_start block place lent)) ∙ sym (hears_as_listener reader rest) ∙ (every_block reader rest).heard
-      ∙ ap (heard_then (heard_as answer.event answer.reader.body)) (hears_as_listener answer.reader (drop answer.used rest))
+  tells = grind (arith, common_steps, at_start, every_block, hears_as_listener)
 
-  silent : answer.event ≡ Nothing → OneStep block place lent
+  silent : answer.event ≡ None → OneStep block place lent
   unfolding heard_then events
   silent none =
       let all : answer.used ≡ length rest = (every_block reader rest).to_the_end none in
       let far : place + answer.used ≡ end_from block place = omega (arith, all, length-drop place block, end_within block place (omega arith)) in
       no_more answer.reader.body
-      (step_is ∙ (λ i. record { answer = record { next = next_of (none i); place = far i }; body = answer.reader.body }))
-      (tells ∙ ap (λ (e : Event). heard_then (heard_as e answer.reader.body) (events (view answer.reader) (drop answer.used rest))) none
+      (step_is ∙ (λ i. record { answer = record { next = none i; place = far i }; body = answer.reader.body }))
+      (tells ∙ ap (λ (e : Option Event). heard_then (heard_as e answer.reader.body) (events (view answer.reader) (drop answer.used rest))) none
       ∙ ap (events (view answer.reader)) (drop_of_length-le rest {i = answer.used} (omega (arith, all))))
 
   -- an event: its last byte tells where the walk goes on
-  module _ (event : Event) (is : answer.event ≡ event) (next_is : next_of event ≡ next_as.Event event) (some : heard_as event answer.reader.body ≡ nothing → ⊥)
-      (first : (later : List Heard) → heard_then (heard_as event answer.reader.body) later ≡ heard_as event answer.reader.body ∷ later) where
-    spoken : (event ≡ Nothing → ⊥) → OneStep block place lent
-    spoken loud =
-        let last = gave 0 reader rest (λ none. loud (sym is ∙ none)) in
+  module _ (event : Event) (is : answer.event ≡ Some event) (some : heard_as (Some event) answer.reader.body ≡ nothing → ⊥)
+      (first : (later : List Heard) → heard_then (heard_as (Some event) answer.reader.body) later ≡ heard_as (Some event) answer.reader.body ∷ later) where
+    spoken : OneStep block place lent
+    spoken =
+        let last = gave 0 reader rest (λ none. cc) in
         let before = last.before in
         let byte = last.byte in
         let behind = place + length before + 1 in
         let there = after (start_at block place) before in
         let stands : view (after_bytes reader before) ≡ there = view_after reader before ∙ ap (λ (l : Listener). after l before) (at_start block place lent) in
-        let heard : heard_as event answer.reader.body ≡ (hear there byte).event =
-        ap (λ (e : Event). heard_as e answer.reader.body) (sym is ∙ last.event) ∙ ap (λ (r : Reader). heard_as (taken (after_bytes reader before) byte).event r.body) last.stands
+        let heard : heard_as (Some event) answer.reader.body ≡ (hear there byte).event =
+        ap (λ (e : Option Event). heard_as e answer.reader.body) (sym is ∙ last.event) ∙ ap (λ (r : Reader). heard_as (taken (after_bytes reader before) byte).event r.body) last.stands
         ∙ told (after_bytes reader before) byte ∙ ap (λ (l : Listener). (hear l byte).event) stands in
         let left : view answer.reader ≡ (hear there byte).next =
         ap view last.stands ∙ joined (after_bytes reader before) byte ∙ ap (λ (l : Listener). (hear l byte).next) stands in
         let given : (hear there byte).event ≡ nothing → ⊥ = λ none. some (heard ∙ none) in
         let far : place + answer.used ≡ behind = omega (arith, last.far) in
         one_more event behind answer.reader.body
-        (step_is ∙ (λ i. record { answer = record { next = (ap next_of is ∙ next_is) i; place = far i }; body = answer.reader.body }))
+        (step_is ∙ (λ i. record { answer = record { next = is i; place = far i }; body = answer.reader.body }))
         (moved_on block place before byte last.later last.is given heard)
-        (tells ∙ ap (λ (e : Event). heard_then (heard_as e answer.reader.body) (events (view answer.reader) (drop answer.used rest))) is
+        (tells ∙ ap (λ (e : Option Event). heard_then (heard_as e answer.reader.body) (events (view answer.reader) (drop answer.used rest))) is
         ∙ first (events (view answer.reader) (drop answer.used rest))
-        ∙ ap (λ (l : Listener). heard_as event answer.reader.body ∷ events l (drop answer.used rest)) (left ∙ sym (stands_behind block place before byte last.later last.is given))
-        ∙ ap (λ (l : List ℕ). heard_as event answer.reader.body ∷ events (start_at block behind) l) (drop-drop answer.used place block ∙ ap (λ (n : ℕ). drop n block) far))
+        ∙ ap (λ (l : Listener). heard_as (Some event) answer.reader.body ∷ events l (drop answer.used rest)) (left ∙ sym (stands_behind block place before byte last.later last.is given))
+        ∙ ap (λ (l : List ℕ). heard_as (Some event) answer.reader.body ∷ events (start_at block behind) l) (drop-drop answer.used place block ∙ ap (λ (n : ℕ). drop n block) far))
 
-  by_event : (event : Event) → answer.event ≡ event → OneStep block place lent
+  by_event : (event : Option Event) → answer.event ≡ event → OneStep block place lent
   unfolding heard_then
-  by_event Nothing is = silent is
-  by_event (Frame wire kept) is = spoken (Frame wire kept) is refl (λ e. let z : ◌≡◌ {A = ℕ} 0 1 = cc in absurd (omega arith)) (λ _. refl) (λ e. let z : ◌≡◌ {A = ℕ} 0 1 = cc in absurd (omega arith))
-  by_event (Refused why wire kept) is = spoken (Refused why wire kept) is refl (λ e. let z : ◌≡◌ {A = ℕ} 0 1 = cc in absurd (omega arith)) (λ _. refl) (λ e. let z : ◌≡◌ {A = ℕ} 0 1 = cc in absurd (omega arith))
+  by_event None is = silent is
+  by_event (Some (Frame wire kept)) is = spoken (Frame wire kept) is (λ e. cc) (λ _. refl)
+  by_event (Some (Refused why wire kept)) is = spoken (Refused why wire kept) is (λ e. cc) (λ _. refl)
 
 one_step : (block : List ℕ) (place : ℕ) (lent : List ℕ) → length lent ≡ longest → OneStep block place lent
 unfolding events
@@ -122,26 +115,13 @@ one_step block place lent full = by_place (leb (length block) place) refl
 
 -- ---- a step that is told is that one step
 
-clash : {end behind : ℕ} {left body : List ℕ} {event : Event} → said_end end left ≡ met event behind body → ⊥
-clash e =
-    let n = ap (λ (s : StepTaken). s.answer.next) e in
-    let z : ◌≡◌ {A = ℕ} 0 1 = cc in omega arith
-
 module _ {block : List ℕ} {place : ℕ} {lent : List ℕ} where
   ends_there : {end : ℕ} {body : List ℕ} → OneStep block place lent → step_from block place lent ≡ said_end end body → (events (start_at block place) (drop place block) ≡ []) × (end ≡ end_from block place)
-  ends_there (no_more left is none) e = (none, ap (λ (s : StepTaken). s.answer.place) (sym e ∙ is))
-  ends_there (one_more event behind left is on _) e = absurd (clash (sym e ∙ is))
+  ends_there step e = grind (arith, common_steps)
 
   goes_on : {event : Event} {behind : ℕ} {body : List ℕ} → OneStep block place lent → step_from block place lent ≡ met event behind body
-      → MovedOn block place (heard_as event body) behind × (events (start_at block place) (drop place block) ≡ heard_as event body ∷ events (start_at block behind) (drop behind block))
-  goes_on (no_more left is none) e = absurd (clash (sym is ∙ e))
-  goes_on {event} {behind} {body} (one_more event' behind' left is on tells) e =
-      let same : met event' behind' left ≡ met event behind body = sym is ∙ e in
-      let next : next_as.Event event' ≡ next_as.Event event = ap (λ (s : StepTaken). s.answer.next) same in
-      let one : event' ≡ event = cc in
-      let two : behind' ≡ behind = ap (λ (s : StepTaken). s.answer.place) same in
-      let three : left ≡ body = ap (λ (s : StepTaken). s.body) same in
-      rw (← one, ← two, ← three) (on, tells)
+      → MovedOn block place (heard_as (Some event) body) behind × (events (start_at block place) (drop place block) ≡ heard_as (Some event) body ∷ events (start_at block behind) (drop behind block))
+  goes_on step e = grind (arith, common_steps)
 
 pub every_step : EveryStep
 every_step block place lent full =
@@ -177,24 +157,13 @@ module _ (block : List ℕ) (lending : ℕ → List ℕ) (lends : Lends lending)
       let (later, there) = only_one walk in
       let same : end_from block behind ≡ end_from block place =
       end_within block behind on.inside ∙ sym (end_within block place (omega (arith, on.forward, on.inside))) in
-      (ap (λ (h : List Heard). heard_as event body ∷ h) later ∙ sym tells, there ∙ same)
+      (ap (λ (h : List Heard). heard_as (Some event) body ∷ h) later ∙ sym tells, there ∙ same)
 
 pub ends_at_once : EndsAtOnce
 ends_at_once block place past lent = step_ends block place lent past
 
-end_past : (block : List ℕ) (place : ℕ) → length block ≤ end_from block place
-end_past block place = by_test (leb (length block) place) refl
-  where
-    by_test : (test : Bool) → leb (length block) place ≡ test → length block ≤ end_from block place
-    by_test true at_end = rw at_end (leb-true (length block) place at_end)
-    by_test false more = rw more (omega arith)
-
 pub walk_from_any_place : WalkFromAnyPlace
-walk_from_any_place block place = record {
-  comes = λ lending lends. comes_to_end block lending lends (length block - place) place (omega arith);
-  only = λ lending lends other end walk. only_one block lending lends walk;
-  for_ever = ends_at_once block (end_from block place) (end_past block place);
-}
+walk_from_any_place block place = grind (arith, common_steps, comes_to_end, ends_at_once, only_one)
 
 pub walk_from_start : WalkFromStart
 unfolding start_at
@@ -229,8 +198,7 @@ walks_on block place before byte later cut some =
 -- the start at a place is that of the bytes before it
 start_grown : (block more : List ℕ) (place : ℕ) → place ≤ length block → start_at (block ++ more) place ≡ start_at block place
 unfolding start_at
-start_grown block more zero within = refl
-start_grown block more (suc before) within = rw (get_or-append block more 0 before (omega arith))
+start_grown block more place within = grind (arith, common_steps)
 
 pub grown_block : GrownBlock
 grown_block block more place lent full event behind body is =
@@ -239,8 +207,8 @@ grown_block block more place lent full event behind body is =
     let reader = standing (place_of (start_at block place)) lent in
     let answer = fed reader (drop place block) in
     let heard = step_is block place lent full within in
-    let next : next_of answer.event ≡ next_as.Event event = ap (λ (s : StepTaken). s.answer.next) (sym heard ∙ is) in
-    let spoken : answer.event ≡ Nothing → ⊥ = λ none. let clash : next_as.End ≡ next_as.Event event = ap next_of (sym none) ∙ next in let z : ◌≡◌ {A = ℕ} 0 1 = cc in omega arith in
+    let next : answer.event ≡ Some event = ap (λ (s : StepTaken). s.answer.next) (sym heard ∙ is) in
+    let spoken : answer.event ≡ None → ⊥ = λ none. cc in
     let longer : place < length (block ++ more) = omega (arith, length-append block more) in
     record {
       meets =

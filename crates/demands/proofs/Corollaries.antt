@@ -1,21 +1,20 @@
 -- Shown: what follows from the wire theorem: no refusal, the whole list from its start, one list for a wire, and a written frame reads back.
 -- Why: a frame names its body, so the events name the list; a written frame is a wire of one, and its counts are the room rule's.
-use Prim.Native.Nat.{ℕ, ◌+◌, ◌-◌, ◌^◌, ◌≤◌, ◌<◌}
+use Prim.Native.Nat.{ℕ, ◌+◌, ◌^◌, ◌≤◌, ◌<◌}
 use mathlib.Core.Path.{◌≡◌, ◌∙◌, refl, sym, ap}
-use mathlib.Core.Bool.{Bool, true, false, cond}
+use mathlib.Core.Bool.{Bool, false, cond}
 use mathlib.Core.List.{List, [], ◌∷◌, map, append-nil}
 use native.Mathlib.Omega.{arith}
 use native.Mathlib.Nat.{mod-eq_of_lt}
 use lib.ListN.{length}
 use lib.Seq.{slice}
 use lib.Dec.{lit≤}
+use Rattle.std.proofs.lemmas.Grind.{common_steps}
 use Rattle.frame.specs.Stuffing.{stuffed, count_ff, framed, needed}
 use Rattle.frame.proofs.Stuffing.{stuffed_length, count_most}
-use Rattle.body.specs.Addresses.{address_in}
-use Rattle.body.specs.Body.{judged, code_in, data_in}
 use Rattle.body.proofs.Rebuilding.{good_address_lem, made_good, rebuilt, lent_at_most, lent_good}
 use Rattle.line.specs.Listener.{Heard, nothing, frame, refused, delimited, fresh, events}
-use Rattle.demands.specs.Wire.{Sent, Shared, AllShared, on_wire, wire_of, any_ff, heard_of, any_refused, frames_of, NoRefusal, GoodBodies, FromStart, OneList, OfFrameRule, ReadsBack}
+use Rattle.demands.specs.Wire.{Sent, Shared, AllShared, on_wire, wire_of, heard_of, any_refused, frames_of, NoRefusal, GoodBodies, FromStart, OneList, OfFrameRule, ReadsBack}
 use Rattle.demands.proofs.Bytes.{clock, at, seeking_run, delimited_run}
 use Rattle.demands.proofs.AllHeard.{on_wire_ahead, quiet_end, to_its_end}
 use Rattle.demands.proofs.Demand3.{shared_demand3}
@@ -28,19 +27,15 @@ from_delimiter list shared = rw append-nil at (to_its_end list shared [] quiet_e
 frame_or_later : (test : Bool) (wire kept : ℕ) (body : List ℕ) (later : List Heard) → any_refused later ≡ false
     → any_refused (cond test (frame wire kept body ∷ later) later) ≡ false
 unfolding any_refused
-frame_or_later true wire kept body later none = none
-frame_or_later false wire kept body later none = none
+frame_or_later test wire kept body later none = grind (arith, common_steps)
 
 frames_only : (bytes : List ℕ) (joined start : ℕ) (list : List Sent) → any_refused (heard_of bytes joined start list) ≡ false
 unfolding heard_of any_refused
 frames_only bytes joined start [] = refl
-frames_only bytes joined start (sent ∷ list) =
-    let end = start + sent.ahead + length (stuffed sent.body) + 2 in
-    frame_or_later (any_ff (slice joined (start + sent.ahead) bytes)) (clock (end - joined)) (length sent.body) sent.body
-    (heard_of bytes joined (start + length (on_wire sent)) list) (frames_only bytes joined (start + length (on_wire sent)) list)
+frames_only bytes joined start (sent ∷ list) = grind (arith, common_steps, clock, frame_or_later, slice, frames_only bytes joined (start + length (on_wire sent)) list)
 
 pub no_refusal : NoRefusal
-no_refusal list shared joined = ap any_refused (shared_demand3 list shared joined) ∙ frames_only (wire_of list) joined 0 list
+no_refusal list shared joined = grind (arith, common_steps, frames_only, shared_demand3)
 
 -- the whole list, from its start: an FF ahead doesn't tell Seeking from Delimited
 pub from_start : FromStart
@@ -61,27 +56,17 @@ bodies (refused why wire kept ∷ heard) = bodies heard
 bodies_of : (taken : ℕ) (list : List Sent) → bodies (frames_of taken list) ≡ map (λ (sent : Sent). sent.body) list
 unfolding bodies frames_of
 bodies_of taken [] = refl
-bodies_of taken (sent ∷ list) = ap (λ (later : List (List ℕ)). sent.body ∷ later) (bodies_of (taken + length (on_wire sent)) list)
+bodies_of taken (sent ∷ list) = grind (arith, common_steps, bodies_of (taken + length (on_wire sent)) list)
 
 names_its_list : (list : List Sent) → AllShared list → bodies (events (at delimited 0) (wire_of list)) ≡ map (λ (sent : Sent). sent.body) list
 names_its_list list shared = ap bodies (from_delimiter list shared) ∙ bodies_of 0 list
 
 pub one_list : OneList
-one_list list other shared others same =
-    sym (names_its_list list shared) ∙ ap (λ (bytes : List ℕ). bodies (events (at delimited 0) bytes)) same ∙ names_its_list other others
+one_list list other shared others same = grind (arith, common_steps, names_its_list)
 
 -- the verdict is the user's
 pub good_bodies : GoodBodies
-good_bodies body = record {
-  each = λ r. ap judged r.runs ∙ made_good r.code r.data' r.address r.is_legal;
-  no_other = λ all good. record {
-    address = address_in body;
-    code = code_in body;
-    data' = data_in body;
-    is_legal = good_address_lem body good;
-    runs = sym (rebuilt body all good);
-  };
-}
+good_bodies body = grind (arith, common_steps, good_address_lem, made_good, rebuilt)
 
 pub of_frame_rule : OfFrameRule
 unfolding framed on_wire

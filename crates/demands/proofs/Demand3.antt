@@ -10,6 +10,7 @@ use native.Mathlib.Nat.{lt_of_not-le, sub-zero, zero-sub, suc-sub-suc}
 use borrow.Author.Tests.{lt-ltb, le-ltb}
 use lib.ListN.{length, drop, replicate, length-replicate}
 use lib.Seq.{drop-append-le, drop-append-add}
+use Rattle.std.proofs.lemmas.Grind.{common_steps}
 use Rattle.frame.specs.Stuffing.{stuffed}
 use Rattle.line.specs.Listener.{Heard, seeking, delimited, fresh, events}
 use Rattle.demands.specs.Wire.{Sent, Shared, AllProper, AllShared, on_wire, wire_of, heard_of, Demand3, SharedDemand3}
@@ -20,9 +21,7 @@ use Rattle.demands.proofs.ByPlaces.{behind_of, none, by_places, behind_all}
 
 -- a wire from a place on, where a part ends ahead of the place, and where the place lies in a run of FFs
 skip : (part rest : List ℕ) (size place : ℕ) → length part ≡ size → size ≤ place → drop place (part ++ rest) ≡ drop (place - size) rest
-skip part rest size place long past =
-    let parts : place ≡ length part + (place - size) = omega arith in
-    ap (λ (k : ℕ). drop k (part ++ rest)) parts ∙ drop-append-add part rest (place - size)
+skip part rest size place long past = grind (arith, common_steps, drop-append-add)
 
 drop_replicate : {A : Type 0} (a : A) (i count : ℕ) → drop i (replicate count a) ≡ replicate (count - i) a
 drop_replicate a zero count = rw sub-zero
@@ -30,9 +29,7 @@ drop_replicate a (suc i) zero = rw zero-sub
 drop_replicate a (suc i) (suc count) = rw suc-sub-suc (drop_replicate a i count)
 
 rest_of_run : (count place m : ℕ) (rest : List ℕ) → place + m ≡ count → drop place (replicate count 0xFF ++ rest) ≡ replicate m 0xFF ++ rest
-rest_of_run count place m rest e =
-    let left : count - place ≡ m = omega arith in
-    drop-append-le place (replicate count 0xFF) rest (rw length-replicate (omega arith)) ∙ rw (drop_replicate, left)
+rest_of_run count place m rest e = grind (arith, common_steps, drop_replicate)
 
 -- who joins behind the first address byte, at place `late` of the body and the FFs behind it, hears nothing up to the next frame
 late_quiet : (sent : Sent) → Shared sent → (late m : ℕ) (rest : List ℕ) → late + m ≡ size sent + sent.behind → 1 ≤ m

@@ -1,30 +1,24 @@
 -- Shown: the laws of 02's request 4: what stays as before, what is refused now, and that a family comes back; and the examples, computed.
 -- Why: for a legal reading the tests that were added hold; a family and its number name each other; the rest computes.
-use Prim.Native.Nat.{ℕ, zero, suc, ◌^◌, ◌≤◌, ◌<◌}
+use Rattle.std.specs.Prelude.{Result, Ok, Err, Option, Some, None}
+use Prim.Native.Nat.{ℕ, ◌^◌, ◌≤◌, ◌<◌}
 use mathlib.Core.Path.{◌≡◌, ◌∙◌, refl, sym, ap}
-use mathlib.Core.Bool.{Bool, true, false, cond, ◌&&◌, and-eq-true_iff}
+use mathlib.Core.Bool.{Bool, true, false, ◌&&◌, and-eq-true_iff}
 use mathlib.Core.List.Memᴰ
 use mathlib.Core.List.{List, Memᴰ}
-use mathlib.Core.Logic.{◌⊎◌, inl, inr, ⊎_elim}
+use mathlib.Core.Logic.{◌⊎◌, inl, inr}
 use native.Mathlib.Omega.{arith}
-use borrow.Author.Tests.{eqb-true, ne_eqb}
+use borrow.Author.Tests.{eqb-true}
 use lib.Dec.{eqb, lit≤}
-use lib.ListN.{length}
+use Rattle.std.proofs.lemmas.Grind.{common_steps}
 use Rattle.refusal.specs.declared.Refusal.{Refusal}
-use Rattle.refusal.specs.declared.Refusal.TheVariants.{FieldOutside, RecordBroken}
-use Rattle.refusal.specs.declared.Named.{Named}
-use Rattle.refusal.specs.declared.Named.TheVariants as refusal_as
-use Rattle.refusal.specs.Numbers.{named_of, line_status}
+use Rattle.refusal.specs.declared.Refusal.TheVariants.{FieldOutside}
 use Rattle.body.specs.Addresses.{highest_short}
 use Rattle.line.specs.Listener.{Heard, nothing, frame, refused}
 use Rattle.weight.specs.declared.families.Family.{Family}
-use Rattle.weight.specs.declared.families.Family.TheVariants.{Plain, Of000, Of001, Of002}
-use Rattle.weight.specs.declared.families.FamilyNamed.{FamilyNamed}
-use Rattle.weight.specs.declared.families.FamilyNamed.TheVariants as named_as
+use Rattle.weight.specs.declared.families.Family.TheVariants.{Plain, Of002}
 use Rattle.weight.specs.declared.FourBytes.{FourBytes}
 use Rattle.weight.specs.declared.Reading.{Reading}
-use Rattle.weight.specs.declared.Read.{Read}
-use Rattle.weight.specs.declared.Read.TheVariants as read_kind
 use Rattle.weight.specs.Families.{terminal, family_number, named_in, family_named, allowed}
 use Rattle.weight.specs.Status.{sixth, marked}
 use Rattle.weight.specs.Bytes.{in_range, read_of, readable, bytes_of, packed_of}
@@ -35,14 +29,13 @@ use Rattle.kilograms.specs.Rounded.{kilograms_of}
 use Rattle.terminal_mode.specs.Modes.{mode_of}
 use Rattle.codes.specs.declared.table.Role.{Role}
 use Rattle.records.specs.declared.records.Record.{Record}
-use Rattle.records.specs.Records.{met_kind, weighs, was_met, no_address, weight_zero, weight_bytes, reading_in, good_address, good_weighing, good_met, good}
-use Rattle.records.specs.Layout.{record_in, rest_zero}
+use Rattle.records.specs.Records.{met_kind, weighs, weight_bytes, reading_in, good_address, good_weighing, good_met, good}
+use Rattle.records.specs.Layout.{record_in}
 use Rattle.records.specs.Reading.{make_record, read_record}
 use Rattle.records.specs.Writing.{judged_record, written_record}
-use Rattle.records.specs.Weighings.{unheard, weight_noted}
+use Rattle.records.specs.Weighings.{weight_noted}
 use Rattle.records.proofs.RoundTrip.{record_back}
 use Rattle.records.proofs.Unweighed.{weighing_noted}
-use Rattle.weighing_log.specs.declared.hearing.Noted.TheVariants as noted_as
 use Rattle.weighing_log.specs.Hearing.{noted_heard}
 use Rattle.weighing_log.proofs.Heard.{refusal_kind}
 use Rattle.weighing_log.proofs.Weighings.{heard as weighing_heard}
@@ -81,69 +74,49 @@ legal_as_before reading legal =
       line = λ off number load address. rw off;
     }
 
-and_true : (test : Bool) → (test && true) ≡ test
-and_true true = refl
-and_true false = refl
-
 pub legal_where_before : LegalWhereBefore
 unfolding in_range
-legal_where_before reading free = by_family reading.family reading.bit6 refl refl
-  where
-    by_family : (family : Family) (bit6 : Bool) → reading.family ≡ family → reading.bit6 ≡ bit6
-        → (in_range_before (without reading) && allowed (terminal family).sixth bit6) ≡ in_range_before (without reading)
-    by_family Plain bit6 is so = and_true (in_range_before (without reading))
-    by_family Of000 bit6 is so = and_true (in_range_before (without reading))
-    by_family Of001 bit6 is so = and_true (in_range_before (without reading))
-    by_family Of002 false is so = and_true (in_range_before (without reading))
-    by_family Of002 true is so = absurd (free (is, so))
+legal_where_before reading free = grind (arith, common_steps)
 
 pub plain_line : PlainLine
 plain_line reading plain off number load address = rw (plain, off)
 
 -- ---- four bytes
 
-unknown_above : (number : ℕ) → family_named number ≡ named_as.Unknown → 3 < number
+unknown_above : (number : ℕ) → family_named number ≡ None → 3 < number
 unfolding family_named named_in
-unknown_above zero e = let clash : ◌≡◌ {A = ℕ} 0 1 = cc in absurd (omega arith)
-unknown_above (suc zero) e = let clash : ◌≡◌ {A = ℕ} 0 1 = cc in absurd (omega arith)
-unknown_above (suc (suc zero)) e = let clash : ◌≡◌ {A = ℕ} 0 1 = cc in absurd (omega arith)
-unknown_above (suc (suc (suc zero))) e = let clash : ◌≡◌ {A = ℕ} 0 1 = cc in absurd (omega arith)
-unknown_above (suc (suc (suc (suc number)))) e = omega arith
+unknown_above number e = grind (arith, common_steps)
 
 -- only 002 has a bit 6 that is not allowed, and only where it is set
 reserves : (family : Family) (set : Bool) → allowed (terminal family).sixth set ≡ false → (family_number family ≡ family_number Of002) × (set ≡ true)
-reserves Plain set e = (cc, cc)
-reserves Of000 set e = (cc, cc)
-reserves Of001 set e = (cc, cc)
-reserves Of002 true e = (refl, refl)
-reserves Of002 false e = (refl, cc)
+reserves family set e = grind (arith, common_steps)
 
 module _ (four : FourBytes) where
   abbrev before : ReadBefore
   before = read_before four.w0 four.w1 four.w2 four.con
 
-  read_was : (reading : Reading) → read_of four ≡ read_kind.Good reading → before ≡ good_before (without reading)
+  read_was : (reading : Reading) → read_of four ≡ Ok reading → before ≡ good_before (without reading)
   read_was reading e = let by = read_by four reading e in rw (by.so.decimal, by.so.is)
 
-  refused_was : (why : Refusal) → read_of four ≡ read_kind.Refused why
+  refused_was : (why : Refusal) → read_of four ≡ Err why
       → (before ≡ refused_before why) ⊎ (Reserved four ⊎ UnknownFamily four)
   refused_was why e = by_digits (digits Plain four) refl (family_named four.family) refl
     where
-      by_bit : (family : Family) → family_named four.family ≡ named_as.Family family → digits Plain four ≡ true → (clear' : Bool) → bit family four ≡ clear'
+      by_bit : (family : Family) → family_named four.family ≡ Some family → digits Plain four ≡ true → (clear' : Bool) → bit family four ≡ clear'
           → (before ≡ refused_before why) ⊎ (Reserved four ⊎ UnknownFamily four)
       by_bit family is decimal true clear' =
           let number = named_number four.family family is in
           let reads = read_of_lem four family (sym number) ∙ so_reads family four decimal clear' in
-          let clash : ◌≡◌ {A = ℕ} 0 1 = cc in absurd (omega arith)
+          cc
       by_bit family is decimal false set =
           let reserved = reserves family (marked sixth four.con) set in
           inr (inl (sym (named_number four.family family is) ∙ reserved.0, reserved.1))
 
-      by_digits : (decimal : Bool) → digits Plain four ≡ decimal → (named : FamilyNamed) → family_named four.family ≡ named
+      by_digits : (decimal : Bool) → digits Plain four ≡ decimal → (named : Option Family) → family_named four.family ≡ named
           → (before ≡ refused_before why) ⊎ (Reserved four ⊎ UnknownFamily four)
       by_digits false none named is = inl (rw (none, refused_by_8 four why e))
-      by_digits true decimal (named_as.Family family) is = by_bit family is decimal (bit family four) refl
-      by_digits true decimal named_as.Unknown is = inr (inr (unknown_above four.family is))
+      by_digits true decimal (Some family) is = by_bit family is decimal (bit family four) refl
+      by_digits true decimal None is = inr (inr (unknown_above four.family is))
 
 pub each_reads_as_before : EachReadsAsBefore
 each_reads_as_before four = record { read = read_was four; refused = refused_was four; unknown = above_unread four }
@@ -163,17 +136,7 @@ not_legal reading is set = rw (is, set) (and_false (in_range_before (without rea
 
 pub reserved_refused : ReservedRefused
 unfolding packed_of value_of difference_of kilograms_of mode_of written_line
-reserved_refused reading is set =
-    let none = not_legal reading is set in
-    record {
-      bytes = rw none;
-      value = rw none;
-      as_gross = λ net. rw none;
-      as_net = λ gross. rw (none, and_false (in_range gross));
-      kilograms = rw none;
-      mode = rw none;
-      line = λ number load address room. rw none;
-    }
+reserved_refused reading is set = grind (arith, common_steps, not_legal)
 
 pub reserved_unread_everywhere : ReservedUnread
 reserved_unread_everywhere four set = reserved_unread four set.0 set.1
@@ -183,73 +146,52 @@ reserved_unread_everywhere four set = reserved_unread four set.0 set.1
 module _ (item : Record) where
   met_not : 0 < item.family → good_met item ≡ false
   unfolding good_met
-  met_not some = rw (ne_eqb item.family 0 (λ e. omega arith)) (and_false (line_status item.status && no_address item && weight_zero item))
+  met_not some = grind (arith, common_steps)
 
-  unread_not : 0 < item.family → reading_in item ≡ read_kind.Refused FieldOutside → good item ≡ false
+  unread_not : 0 < item.family → reading_in item ≡ Err FieldOutside → good item ≡ false
   unfolding good good_weighing
-  unread_not some none = by_kind (weighs item) (was_met item)
-    where
-      by_kind : (weighed met : Bool) → cond weighed (good_address item && readable (reading_in item)) (cond met (good_met item) false) ≡ false
-      by_kind true met = rw none (and_false (good_address item))
-      by_kind false true = met_not some
-      by_kind false false = refl
+  unread_not some none = grind (arith, common_steps, met_not)
 
   of_kind_3 : item.kind ≡ met_kind → 0 < item.family → good item ≡ false
   unfolding good
-  of_kind_3 kind some =
-      let none : weighs item ≡ false = rw kind in
-      let met : was_met item ≡ true = rw kind in
-      rw (none, met) (met_not some)
+  of_kind_3 kind some = grind (arith, common_steps, met_not)
 
   breaks : Breaks item.family item.kind item.status → good item ≡ false
-  breaks broken =
-      ⊎_elim (λ above. unread_not (omega arith) (above_unread (weight_bytes item) above))
-      (λ more. ⊎_elim (λ met. of_kind_3 met.0 met.1) (λ set. unread_not (omega (arith, set.0)) (reserved_unread (weight_bytes item) set.0 set.1)) more)
-      broken
+  breaks broken = grind (arith, common_steps, above_unread, of_kind_3, reserved_unread, unread_not)
 
 pub eleven_also : ElevenAlso
 unfolding written_record judged_record read_record make_record record_in
-eleven_also = record {
-  written = λ item room broken. rw (breaks item broken);
-  read = λ bytes broken. rw (breaks (record_in bytes) broken, and_false (rest_zero bytes), and_false (eqb (length bytes) 20));
-}
+eleven_also = grind (arith, common_steps, breaks)
 
 -- ---- the log
 
 -- what a good weighing notes was read from its own bytes
-noted_reading : (item : Record) (reading : Reading) → weight_noted item ≡ read_kind.Good reading → reading_in item ≡ read_kind.Good reading
+noted_reading : (item : Record) (reading : Reading) → weight_noted item ≡ Ok reading → reading_in item ≡ Ok reading
 unfolding weight_noted
-noted_reading item reading e = by_rule (good item) (was_met item) (named_of item.status) refl e
-  where
-    by_rule : (is_good_lem met : Bool) (named : Named) → named_of item.status ≡ named
-        → cond is_good_lem (cond met (unheard named) (reading_in item)) (read_kind.Refused RecordBroken) ≡ read_kind.Good reading → reading_in item ≡ read_kind.Good reading
-    by_rule true false named is e = e
-    by_rule true true (refusal_as.Refusal why) is e = let clash : ◌≡◌ {A = ℕ} 0 1 = cc in absurd (omega arith)
-    by_rule true true refusal_as.Unknown is e = let clash : ◌≡◌ {A = ℕ} 0 1 = cc in absurd (omega arith)
-    by_rule false met named is e = let clash : ◌≡◌ {A = ℕ} 0 1 = cc in absurd (omega arith)
+noted_reading item reading e = grind (arith, common_steps)
 
 -- a weighing is not of kind 3
 not_kind_3 : (item : Record) → weighs item ≡ true → item.kind ≡ 3 → ⊥
-not_kind_3 item weighing kind = let unmet = not_met item weighing in let met : was_met item ≡ true = rw kind in let clash : ◌≡◌ {A = ℕ} 0 1 = cc in omega arith
+not_kind_3 item weighing kind = grind (arith, common_steps)
 
 -- a good weighing notes a reading
 record Notes (item : Record) : Type 0 where
   reading : Reading
-  noted : weight_noted item ≡ read_kind.Good reading
+  noted : weight_noted item ≡ Ok reading
 
 notes_reading : (item : Record) → good item ≡ true → weighs item ≡ true → Notes item
 unfolding good good_weighing
 notes_reading item right weighing =
     by_read (reading_in item) refl ((and-eq-true_iff (good_address item) (readable (reading_in item))).0 (rw weighing at right)).1
   where
-    by_read : (read : Read) → reading_in item ≡ read → readable read ≡ true → Notes item
-    by_read (read_kind.Good reading) e can = record { reading = reading; noted = weighing_noted item right (not_met item weighing) ∙ e }
-    by_read (read_kind.Refused why) e can = let clash : ◌≡◌ {A = ℕ} 0 1 = cc in absurd (omega arith)
+    by_read : (read : Result Reading Refusal) → reading_in item ≡ read → readable read ≡ true → Notes item
+    by_read (Ok reading) e can = record { reading = reading; noted = weighing_noted item right (not_met item weighing) ∙ e }
+    by_read (Err why) e can = cc
 
 -- the number of a weighing's family
-weighing_number : (time : ℕ) (role : Role) (family : Family) (heard : Heard) (item : Record) → noted_heard time role family heard ≡ noted_as.Record item
+weighing_number : (time : ℕ) (role : Role) (family : Family) (heard : Heard) (item : Record) → noted_heard time role family heard ≡ Ok (Some item)
     → (item.kind ≡ 3 → ⊥) → item.family ≡ family_number family
-weighing_number time role family nothing item e unmet = let clash : ◌≡◌ {A = ℕ} 0 1 = cc in absurd (omega arith)
+weighing_number time role family nothing item e unmet = cc
 weighing_number time role family (frame wire kept body) item e unmet = (weighing_heard role family time body item e unmet).of_line
 weighing_number time role family (refused why wire kept) item e unmet = absurd (unmet (refusal_kind time why item e))
 

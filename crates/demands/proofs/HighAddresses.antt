@@ -1,50 +1,42 @@
 -- Shown: on a wire of bytes heard from fresh no event is refusal 5, nor any record or line made of them.
 -- Why: a body is begun by a byte that is neither FE nor FF. Any other first byte is a legal short address, or 00 ahead of three bytes of serial.
+use Rattle.std.specs.Prelude.{Result, Ok, Err, Some}
 use mir.Facts.{and_yes}
 use Prim.Native.Nat.{ℕ, ◌<◌}
-use mathlib.Core.Path.{◌≡◌, ◌∙◌, refl, sym, ap, subst}
-use mathlib.Core.Bool.{Bool, true, false, cond}
+use mathlib.Core.Path.{◌≡◌, ◌∙◌, sym, ap, subst}
+use mathlib.Core.Bool.{true, false}
 use mathlib.Core.List.{List, [], ◌∷◌, ◌++◌, flatten, Memᴰ}
 use native.Mathlib.Omega.{arith}
-use borrow.Author.Tests.{eqb-false, le-leb}
-use lib.Dec.{T, ltb, eqb, ltb→lt}
+use lib.Dec.{T, ltb}
 use lib.ListN.{length, get_or}
 use lib.Pow.{are_bytes}
+use Rattle.std.proofs.lemmas.Grind.{common_steps}
 use Rattle.refusal.specs.declared.Refusal.{Refusal}
 use Rattle.refusal.specs.declared.Refusal.TheVariants.{AddressIllegal}
-use Rattle.refusal.specs.declared.Verdict.{Verdict}
-use Rattle.refusal.specs.declared.Verdict.TheVariants.{Good, Refused}
 use Rattle.refusal.specs.Numbers.{number_of}
-use Rattle.laws.proofs.ByteLists.{byte_at, bytes_one_more, bytes_drop}
+use Rattle.laws.proofs.ByteLists.{bytes_one_more, bytes_drop}
 use Rattle.low_first.specs.LowFirst.{low_first}
-use Rattle.body.specs.declared.addresses.Address.{Address}
-use Rattle.body.specs.declared.addresses.Address.TheVariants.{Short, Serial}
-use Rattle.body.specs.Addresses.{highest_short, legal, address_in}
-use Rattle.body.specs.Body.{longest, judged}
+use Rattle.body.specs.Addresses.{legal, address_in}
+use Rattle.body.specs.Body.{judged}
 use Rattle.body.proofs.Rebuilding.{good_address_lem}
 use Rattle.line.specs.Listener.{State, seeking, delimited, inside, held, Heard, nothing, frame, refused, Listener, Step, fresh, step, keep, ended, tick, hear_in, hear, events, after}
 use Rattle.line.specs.declared.reading.Reader.{Reader}
 use Rattle.line.specs.Readers.{view}
-use Rattle.line.proofs.EveryStep.{either, every_event}
+use Rattle.line.proofs.EveryStep.{every_event}
 use Rattle.weight.specs.declared.families.Family.{Family}
 use Rattle.codes.specs.declared.table.Role.{Role}
 use Rattle.codes.specs.declared.table.Role.TheVariants.{Reply}
 use Rattle.codes.specs.declared.table.Load.{Load}
 use Rattle.codes.specs.declared.table.Load.TheVariants.{Net, Gross}
-use Rattle.meaning.specs.declared.meaning.WeightOrNot.{WeightOrNot}
-use Rattle.meaning.specs.declared.meaning.WeightOrNot.TheVariants as said_as
 use Rattle.meaning.specs.Weights.{weight_said}
-use Rattle.message.specs.declared.reading.Received.{Received}
-use Rattle.message.specs.declared.reading.Received.TheVariants as received_as
 use Rattle.message.specs.Reading.{read_message}
 use Rattle.message.proofs.Refusals.{end_refuses, message_refuses}
 use Rattle.records.specs.declared.records.Record.{Record}
 use Rattle.records.specs.Records.{kind_of, met_kind}
-use Rattle.weighing_log.specs.declared.hearing.Noted.TheVariants as noted_as
 use Rattle.weighing_log.specs.Hearing.{record_of, noted_heard}
 use Rattle.weighing_log.proofs.Heard.{refusal_made, said_made}
 use Rattle.entries.specs.declared.entries.Entry.TheVariants as entry_as
-use Rattle.entries.specs.Entries.{message_entry, entry_of, entry_heard}
+use Rattle.entries.specs.Entries.{entry_of, entry_heard}
 use Rattle.demands.specs.Wire.{over_blocks}
 use Rattle.demands.specs.Reading.{heard_by}
 use Rattle.demands.specs.HighAddresses.{NoFive, HeardWithoutFive, WrittenWithoutFive, NeverFive}
@@ -52,6 +44,7 @@ use Rattle.demands.proofs.Cuts.{any_blocks}
 use Rattle.demands.proofs.Reading.{hears_as_listener, every_cut}
 use Rattle.demands.proofs.Loops.{feed_loop, listen_loop}
 use Rattle.demands.proofs.Weighings.{in_log, in_listing}
+use Rattle.message.specs.declared.reading.Message.{Message}
 
 -- ---- a first byte below FE
 
@@ -61,25 +54,16 @@ NotFive why = number_of why ≡ 5 → ⊥
 -- every body of bytes that begins so has a legal address
 low_legal : (body : List ℕ) → T (are_bytes body) → get_or body 0 0 < 0xFE → legal (address_in body) ≡ true
 unfolding address_in legal low_first
-low_legal body all low = by_first (eqb (get_or body 0 0) 0) refl
-  where
-    serial : ℕ
-    serial = low_first (get_or body 1 0 ∷ get_or body 2 0 ∷ get_or body 3 0 ∷ [])
-
-    by_first : (zero_first : Bool) → eqb (get_or body 0 0) 0 ≡ zero_first → legal (cond zero_first (Serial serial) (Short (get_or body 0 0))) ≡ true
-    by_first true is = le-leb serial 16_777_215 (omega (arith, byte_at body all 1, byte_at body all 2, byte_at body all 3))
-    by_first false is =
-        let above : 0 < get_or body 0 0 = omega (arith, eqb-false (get_or body 0 0) 0 is) in
-        rw (le-leb 1 (get_or body 0 0) (omega arith), le-leb (get_or body 0 0) highest_short (omega arith))
+low_legal body all low = grind (arith, common_steps)
 
 -- so 5 is not what it is refused by, at its end or as a message
 not_illegal : (body : List ℕ) → legal (address_in body) ≡ true → legal (address_in body) ≡ false → NotFive AddressIllegal
-not_illegal body right wrong five = let clash : ◌≡◌ {A = ℕ} 0 1 = cc in omega arith
+not_illegal body right wrong five = cc
 
-end_not_five : (body : List ℕ) → legal (address_in body) ≡ true → (why : Refusal) → judged body ≡ Refused why → NotFive why
+end_not_five : (body : List ℕ) → legal (address_in body) ≡ true → (why : Refusal) → judged body ≡ Err why → NotFive why
 end_not_five body right = end_refuses NotFive body (λ five. omega arith) (λ five. omega arith) (not_illegal body right)
 
-message_not_five : (body : List ℕ) → judged body ≡ Good → (role : Role) (family : Family) (why : Refusal) → read_message role family body ≡ received_as.Refused why → NotFive why
+message_not_five : (body : List ℕ) → judged body ≡ Ok tt → (role : Role) (family : Family) (why : Refusal) → read_message role family body ≡ Err why → NotFive why
 message_not_five body good =
     message_refuses NotFive body (λ five. omega arith) (λ five. omega arith) (not_illegal body (good_address_lem body good)) (λ five. omega arith)
     (λ five. omega arith) (λ five. omega arith) (λ five. omega arith)
@@ -89,7 +73,7 @@ message_not_five body good =
 -- an event that is not refusal 5; a frame's body is good
 abbrev Fine : Heard → Type 0
 Fine nothing = Unit {0}
-Fine (frame wire kept body) = judged body ≡ Good
+Fine (frame wire kept body) = judged body ≡ Ok tt
 Fine (refused why wire kept) = NotFive why
 
 -- a body that a line began
@@ -107,35 +91,20 @@ Known (held kept) = Begun kept
 abbrev Both : Step → Type 0
 Both s = Known s.next.state × Fine s.event
 
-low_byte : (byte : ℕ) → T (ltb byte 256) → eqb byte 0xFF ≡ false → eqb byte 0xFE ≡ false → byte < 0xFE
-low_byte byte small not_ff not_fe = omega (arith, ltb→lt byte 256 small, eqb-false byte 0xFF not_ff, eqb-false byte 0xFE not_fe)
-
 longer : (kept : List ℕ) (more : ℕ) → T (ltb more 256) → Begun kept → Begun (kept ++ (more ∷ []))
-longer [] more small begun = absurd (omega (arith, begun.some))
-longer (first ∷ kept) more small begun = record { bytes = bytes_one_more (first ∷ kept) more begun.bytes small; some = omega arith; low = begun.low }
+longer kept more small begun = grind (arith, common_steps, bytes_one_more)
 
 keeps : (kept : List ℕ) (more wire : ℕ) → Begun (kept ++ (more ∷ [])) → Both (keep kept more wire)
 unfolding keep
-keeps kept more wire begun = either Both (ltb (length kept) longest) _ _ (λ _. (begun, tt)) (λ _. (tt, λ five. omega arith))
+keeps kept more wire begun = grind (arith, common_steps)
 
-at_end : (kept : List ℕ) → Begun kept → (wire : ℕ) (verdict : Verdict) → judged kept ≡ verdict → Both (step delimited wire (ended verdict kept wire))
+at_end : (kept : List ℕ) → Begun kept → (wire : ℕ) (verdict : Result (Unit {0}) Refusal) → judged kept ≡ verdict → Both (step delimited wire (ended verdict kept wire))
 unfolding ended
-at_end kept begun wire Good is = (tt, is)
-at_end kept begun wire (Refused why) is = (tt, end_not_five kept (low_legal kept begun.bytes begun.low) why is)
+at_end kept begun wire verdict is = grind (arith, common_steps, end_not_five, low_legal)
 
 one_byte : (state : State) (byte wire : ℕ) → T (ltb byte 256) → Known state → Both (hear_in state byte wire)
 unfolding hear_in
-one_byte seeking byte wire small known = either Both (eqb byte 0xFF) _ _ (λ _. (tt, tt)) (λ _. (tt, tt))
-one_byte delimited byte wire small known =
-    either Both (eqb byte 0xFF) _ _ (λ _. (tt, tt))
-    (λ not_ff. either Both (eqb byte 0xFE) _ _ (λ _. (tt, tt))
-    (λ not_fe. keeps [] byte wire
-    (record { bytes = bytes_one_more [] byte tt small; some = omega arith; low = low_byte byte small not_ff not_fe })))
-one_byte (inside kept) byte wire small known =
-    either Both (eqb byte 0xFF) _ _ (λ _. (known, tt)) (λ _. keeps kept byte wire (longer kept byte small known))
-one_byte (held kept) byte wire small known =
-    either Both (eqb byte 0xFE) _ _ (λ _. keeps kept 0xFF wire (longer kept 0xFF tt known))
-    (λ _. either Both (eqb byte 0xFF) _ _ (λ _. at_end kept known wire (judged kept) refl) (λ _. (tt, λ five. omega arith)))
+one_byte state byte wire small known = grind (arith, common_steps, at_end, keeps, longer)
 
 -- ---- any bytes
 
@@ -150,44 +119,31 @@ all_fine bytes small =
 
 -- ---- what is written of them
 
-entry_said : (address : Address) (code : ℕ) (weight : WeightOrNot) (why : Refusal) → message_entry address code weight ≡ entry_as.Refused why → ⊥
-entry_said address code (said_as.Weight said) why e = let clash : ◌≡◌ {A = ℕ} 0 1 = cc in omega arith
-entry_said address code said_as.NoWeight why e = let clash : ◌≡◌ {A = ℕ} 0 1 = cc in omega arith
-
-read_listed : (family : Family) (body : List ℕ) → judged body ≡ Good → (why : Refusal) (received : Received) → read_message Reply family body ≡ received → entry_of received ≡ entry_as.Refused why
+read_listed : (family : Family) (body : List ℕ) → judged body ≡ Ok tt → (why : Refusal) (received : Result Message Refusal) → read_message Reply family body ≡ received → entry_of received ≡ entry_as.Refused why
     → NotFive why
-read_listed family body good why (received_as.Message message) was e = absurd (entry_said message.address message.code (weight_said message.what) why e)
-read_listed family body good why (received_as.Refused other) was e =
-    let same : other ≡ why = cc in
-    subst NotFive same (message_not_five body good Reply family other was)
+read_listed family body good why received was e = grind (arith, common_steps, message_not_five)
 
-listed : (family : Family) (why : Refusal) (heard : Heard) → Fine heard → entry_heard family heard ≡ entry_as.Refused why → NotFive why
+listed : (family : Family) (why : Refusal) (heard : Heard) → Fine heard → entry_heard family heard ≡ Some (entry_as.Refused why) → NotFive why
 unfolding entry_heard
-listed family why nothing fine e = let clash : ◌≡◌ {A = ℕ} 0 1 = cc in absurd (omega arith)
-listed family why (frame wire kept body) good e = read_listed family body good why (read_message Reply family body) refl e
-listed family why (refused other wire kept) fine e =
-    let same : other ≡ why = cc in
-    subst NotFive same fine
+listed family why heard fine e = grind (arith, common_steps, read_listed)
 
 module _ (time : ℕ) (item : Record) (met : item.kind ≡ met_kind) (five : item.status ≡ 5) where
   weighed : (load : Load) → item.kind ≡ kind_of load → ⊥
   weighed Gross e = omega arith
   weighed Net e = omega arith
 
-  of_refusal : (why : Refusal) → NotFive why → record_of time (received_as.Refused why) ≡ noted_as.Record item → ⊥
-  of_refusal why not_five e = not_five (sym (ap (λ (one : Record). one.status) (refusal_made time why item e)) ∙ five)
+  of_refusal : (why : Refusal) → NotFive why → record_of time (Err why) ≡ Ok (Some item) → ⊥
+  of_refusal why not_five e = grind (arith, common_steps, refusal_made)
 
-  of_body_lem : (body : List ℕ) → judged body ≡ Good → (role : Role) (family : Family) (received : Received) → read_message role family body ≡ received → record_of time received ≡ noted_as.Record item → ⊥
+  of_body_lem : (body : List ℕ) → judged body ≡ Ok tt → (role : Role) (family : Family) (received : Result Message Refusal) → read_message role family body ≡ received → record_of time received ≡ Ok (Some item) → ⊥
   unfolding record_of
-  of_body_lem body good role family (received_as.Message message) was e =
+  of_body_lem body good role family (Ok message) was e =
       let made = said_made time message.address (weight_said message.what) item e in
       weighed made.said.load (ap (λ (one : Record). one.kind) made.is)
-  of_body_lem body good role family (received_as.Refused why) was e = of_refusal why (message_not_five body good role family why was) e
+  of_body_lem body good role family (Err why) was e = of_refusal why (message_not_five body good role family why was) e
 
-  noted : (role : Role) (family : Family) (heard : Heard) → Fine heard → noted_heard time role family heard ≡ noted_as.Record item → ⊥
-  noted role family nothing fine e = let clash : ◌≡◌ {A = ℕ} 0 1 = cc in omega arith
-  noted role family (frame wire kept body) good e = of_body_lem body good role family (read_message role family body) refl e
-  noted role family (refused why wire kept) fine e = of_refusal why fine e
+  noted : (role : Role) (family : Family) (heard : Heard) → Fine heard → noted_heard time role family heard ≡ Ok (Some item) → ⊥
+  noted role family heard fine e = grind (arith, common_steps, of_body_lem, of_refusal)
 
 -- ---- the law
 
@@ -199,7 +155,7 @@ module _ (blocks : List (List ℕ)) (small : T (are_bytes (flatten blocks))) whe
   none heard is why wire kept among = fine heard is (refused why wire kept) among
 
   from_fresh : (reader : Reader) → view reader ≡ fresh → heard_by reader (flatten blocks) ≡ events fresh (flatten blocks)
-  from_fresh reader is_fresh = hears_as_listener reader (flatten blocks) ∙ ap (λ (listener : Listener). events listener (flatten blocks)) is_fresh
+  from_fresh reader is_fresh = grind (arith, common_steps, hears_as_listener)
 
   of_heard : HeardWithoutFive blocks
   of_heard = record {
@@ -214,7 +170,7 @@ module _ (blocks : List (List ℕ)) (small : T (are_bytes (flatten blocks))) whe
     noted = λ time role family item among met five.
         (in_log Fine (λ _. ⊥) time role family item (λ heard number. noted (time number) item met five role family heard) _ 1 (fine _ (any_blocks fresh blocks)) among).such;
     listed = λ family why among.
-        (in_listing Fine (λ _. NotFive why) family (entry_as.Refused why) (listed family why) _ (fine _ (any_blocks fresh blocks)) among).such;
+        (in_listing Fine (λ _. NotFive why) family (Some (entry_as.Refused why)) (listed family why) _ (fine _ (any_blocks fresh blocks)) among).such;
   }
 
 pub never_five : NeverFive

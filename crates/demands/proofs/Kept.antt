@@ -1,11 +1,12 @@
 -- Shown: each reply C2 or C3 that was heard stands in the log as its weighing and in the listing as its weight.
 -- Why: a body put together from such parts is read as the message of its parts, and a reading packs to the bytes that it was read from.
+use Rattle.std.specs.Prelude.{Result, Ok, Option, Some}
 use Prim.Native.Nat.{ℕ, ◌+◌, ◌≤◌}
-use mathlib.Core.Path.{◌≡◌, ◌∙◌, refl, ap, sym}
+use mathlib.Core.Path.{◌≡◌, ◌∙◌, refl}
 use mathlib.Core.List.{List, [], ◌∷◌, ◌++◌}
 use native.Mathlib.Omega.{arith}
-use lib.ListN.{length, replicate, length-replicate}
-use Rattle.refusal.specs.declared.Verdict.TheVariants.{Good}
+use lib.ListN.{length, replicate}
+use Rattle.std.proofs.lemmas.Grind.{common_steps}
 use Rattle.body.specs.declared.addresses.Address.{Address}
 use Rattle.body.specs.declared.addresses.Address.TheVariants.{Short, Serial}
 use Rattle.body.specs.Addresses.{address_length}
@@ -16,8 +17,6 @@ use Rattle.line.specs.Listener.{Heard}
 use Rattle.weight.specs.declared.families.Family.{Family}
 use Rattle.weight.specs.declared.FourBytes.{FourBytes}
 use Rattle.weight.specs.declared.Reading.{Reading}
-use Rattle.weight.specs.declared.Read.TheVariants as read_kind
-use Rattle.weight.specs.declared.Packed.TheVariants as packed_as
 use Rattle.weight.specs.Digits.{digits_of}
 use Rattle.weight.specs.Status.{sixth, marked, reading_of}
 use Rattle.weight.specs.Bytes.{in_order, four_in, read_of, packed_of}
@@ -28,16 +27,12 @@ use Rattle.codes.specs.declared.table.Load.{Load}
 use Rattle.codes.specs.declared.table.Load.TheVariants.{Net, Gross}
 use Rattle.codes.specs.declared.table.Row.TheVariants.{Weight}
 use Rattle.codes.specs.Table.{line_in, line_of, row_of}
-use Rattle.meaning.specs.declared.meaning.WeightOrNot.TheVariants as said_as
 use Rattle.meaning.specs.Weights.{weight_said}
 use Rattle.meaning.specs.Judging.{judged_code, judged_data, judged_message}
-use Rattle.message.specs.declared.reading.Received.TheVariants as received_as
 use Rattle.message.specs.Reading.{message_of, read_message}
 use Rattle.message.specs.Writing.{judged_message_write}
 use Rattle.message.proofs.RoundTrip.{may_be_written, read_back}
 use Rattle.records.specs.declared.records.Record.{Record}
-use Rattle.weighing_log.specs.declared.hearing.Noted.{Noted}
-use Rattle.weighing_log.specs.declared.hearing.Noted.TheVariants as noted_as
 use Rattle.weighing_log.specs.Hearing.{record_of, noted_heard}
 use Rattle.weighing_log.specs.Heard.{code_of}
 use Rattle.weighing_log.proofs.Heard.{weighing_made}
@@ -45,8 +40,9 @@ use Rattle.entries.specs.Entries.{entry_heard}
 use Rattle.demands.proofs.ByFamily.{free_allowed, so_reads, read_of_lem}
 use Rattle.demands.specs.Kept.{WeightReply, WeightsKept, LogInOrder}
 use Rattle.demands.specs.Weighings.{note_then, records_from}
+use Rattle.refusal.specs.declared.Refusal.{Refusal}
 
-row : (load : Load) → row_of Reply (code_of load) ≡ Weight load
+row : (load : Load) → row_of Reply (code_of load) ≡ Some (Weight load)
 unfolding row_of line_of line_in
 row Net = refl
 row Gross = refl
@@ -59,7 +55,7 @@ at_most_four (Serial serial) = omega arith
 module _ (family : Family) (address : Address) (load : Load) (four : FourBytes) (reply : WeightReply family address four) where
   four_of : four_in family (in_order four) ≡ four
   unfolding four_in
-  four_of = λ i. record { w0 = four.w0; w1 = four.w1; w2 = four.w2; con = four.con; family = sym reply.line i }
+  four_of = grind (arith, common_steps)
 
   body : List ℕ
   body = body_of address (code_of load) (in_order four)
@@ -67,14 +63,14 @@ module _ (family : Family) (address : Address) (load : Load) (four : FourBytes) 
   reading : Reading
   reading = reading_of family (digits_of four.w0 four.w1 four.w2) four.con
 
-  read : read_of four ≡ read_kind.Good reading
+  read : read_of four ≡ Ok reading
   unfolding reading
   read = read_of_lem four family reply.line ∙ so_reads family four reply.digits (free_allowed family (marked sixth four.con) reply.bit6)
 
-  packs : packed_of reading ≡ packed_as.Bytes four
+  packs : packed_of reading ≡ Ok four
   packs = bytes_back four reply.status reading read
 
-  right : judged_message Reply family (code_of load) (in_order four) ≡ Good
+  right : judged_message Reply family (code_of load) (in_order four) ≡ Ok tt
   unfolding judged_message judged_code judged_data
   right = rw (row load, four_of, read)
 
@@ -82,17 +78,15 @@ module _ (family : Family) (address : Address) (load : Load) (four : FourBytes) 
   room : List ℕ
   room = replicate (needed body) 0
 
-  writable : judged_message_write Reply family address (code_of load) (in_order four) room ≡ Good
+  writable : judged_message_write Reply family address (code_of load) (in_order four) room ≡ Ok tt
   unfolding body room
-  writable =
-      may_be_written Reply family address (code_of load) (in_order four) room reply.from right
-      (omega (arith, body_length address (code_of load) (in_order four), at_most_four address)) (omega (arith, length-replicate {A = ℕ} (needed body) 0))
+  writable = grind (arith, common_steps, at_most_four, body_length, may_be_written, right)
 
-  is_read : read_message Reply family body ≡ received_as.Message (message_of Reply family address (code_of load) (in_order four))
+  is_read : read_message Reply family body ≡ Ok (message_of Reply family address (code_of load) (in_order four))
   unfolding body
   is_read = read_back Reply family address (code_of load) (in_order four) room writable
 
-  says : weight_said (message_of Reply family address (code_of load) (in_order four)).what ≡ said_as.Weight (record { load = load; bytes = four; reading = reading })
+  says : weight_said (message_of Reply family address (code_of load) (in_order four)).what ≡ Some (record { load = load; bytes = four; reading = reading })
   unfolding message_of
   says = rw (row load, four_of, read)
 
@@ -110,10 +104,8 @@ weights_kept family wire kept address load four reply =
 
 -- ---- all that a line gives
 
-note_append : (made : Noted) (first second : List Record) → note_then made (first ++ second) ≡ note_then made first ++ second
-note_append noted_as.Nothing first second = refl
-note_append (noted_as.Record item) first second = refl
-note_append (noted_as.Refused why) first second = refl
+note_append : (made : Result (Option Record) Refusal) (first second : List Record) → note_then made (first ++ second) ≡ note_then made first ++ second
+note_append made first second = grind (arith, common_steps)
 
 module _ (time : ℕ → ℕ) (role : Role) (family : Family) (one : Heard) (later : List Heard) where
   -- what the event of a number makes, ahead of what the later ones make
@@ -122,13 +114,8 @@ module _ (time : ℕ → ℕ) (role : Role) (family : Family) (one : Heard) (lat
 
   in_order_lem : (before : List Heard) (number : ℕ) → records_from time role family number (before ++ (one ∷ later)) ≡ records_from time role family number before ++ from_there (length before + number)
   unfolding records_from
-  in_order_lem [] number = let same : length {A = Heard} [] + number ≡ number = omega arith in rw same
-  in_order_lem (heard ∷ before) number =
-      let next : length before + (number + 1) ≡ length (heard ∷ before) + number = omega arith in
-      ap (note_then (noted_heard (time number) role family heard)) (in_order_lem before (number + 1) ∙ rw next)
-      ∙ note_append (noted_heard (time number) role family heard) (records_from time role family (number + 1) before) _
+  in_order_lem [] number = grind (arith, common_steps)
+  in_order_lem (heard ∷ before) number = grind (arith, common_steps, note_append, in_order_lem before (number + 1))
 
 pub log_in_order : LogInOrder
-log_in_order time role family before one later =
-    let next : length before + 1 + 1 ≡ length before + 2 = omega arith in
-    in_order_lem time role family one later before 1 ∙ rw next
+log_in_order time role family before one later = grind (arith, common_steps, in_order_lem)

@@ -1,25 +1,21 @@
 -- Shown: an event is given by the last byte that a block gave up, and that byte tells how the line is left: Delimited behind an FF, or Seeking.
 -- Why: a block is fed byte by byte by its definition, and in each state only the tests on the byte lead to an event.
+use Rattle.std.specs.Prelude.{Result, Ok, Err, Option, Some, None}
 use Prim.Native.Nat.{ℕ, ◌+◌}
 use mathlib.Core.Path.{◌≡◌, ◌∙◌, refl, ap}
 use mathlib.Core.List.{List, [], ◌∷◌, ◌++◌}
-use mathlib.Core.Logic.{◌⊎◌, inl, inr, ⊎_elim}
+use mathlib.Core.Logic.{◌⊎◌, inl, inr}
 use native.Mathlib.Omega.{arith}
-use borrow.Author.Tests.{eqb-true, eqb-false, eq-eqb, ne_eqb}
-use lib.Dec.{ltb, eqb}
 use lib.ListN.{length}
+use Rattle.std.proofs.lemmas.Grind.{common_steps}
 use Rattle.refusal.specs.declared.Refusal.{Refusal}
-use Rattle.refusal.specs.declared.Verdict.{Verdict}
-use Rattle.refusal.specs.declared.Verdict.TheVariants as verdict_as
 use Rattle.refusal.specs.Numbers.{number_of}
-use Rattle.body.specs.Body.{longest, judged}
+use Rattle.body.specs.Body.{judged}
 use Rattle.line.specs.declared.places.Event.{Event}
-use Rattle.line.specs.declared.places.Event.TheVariants.{Nothing, Frame, Refused}
 use Rattle.line.specs.declared.reading.Reader.{Reader}
 use Rattle.line.specs.declared.reading.Fed.{Fed}
-use Rattle.line.specs.Listener.{State, seeking, delimited, inside, held, Heard, nothing, frame, refused, Listener, Step, step, keep, ended, tick, hear_in, hear, after}
+use Rattle.line.specs.Listener.{State, delimited, Heard, nothing, Listener, Step, step, keep, ended, hear_in, hear, after}
 use Rattle.line.specs.Readers.{view, taken, fed_from}
-use Rattle.line.proofs.EveryStep.{either}
 use Rattle.line.proofs.Joined.{joined}
 use Rattle.message.proofs.Refusals.{end_refuses}
 use Rattle.capture_walker.specs.Walking.{state_behind}
@@ -39,7 +35,7 @@ pub record Gave (used : ℕ) (reader : Reader) (block : List ℕ) : Type 0 where
   pub stands : (fed_from used reader block).reader ≡ (taken (after_bytes reader before) byte).reader
 
 abbrev Spoken : ℕ → Reader → List ℕ → Type 0
-Spoken used reader block = (fed_from used reader block).event ≡ Nothing → ⊥
+Spoken used reader block = (fed_from used reader block).event ≡ None → ⊥
 
 module _ (used : ℕ) (reader : Reader) (byte : ℕ) (block : List ℕ) where
   -- the first byte told it
@@ -57,9 +53,9 @@ module _ (used : ℕ) (reader : Reader) (byte : ℕ) (block : List ℕ) where
 
   -- or a later one did
   by_event : (Spoken (used + 1) (taken reader byte).reader block → Gave (used + 1) (taken reader byte).reader block)
-      → Spoken used reader (byte ∷ block) → (event : Event) → (taken reader byte).event ≡ event → Gave used reader (byte ∷ block)
+      → Spoken used reader (byte ∷ block) → (event : Option Event) → (taken reader byte).event ≡ event → Gave used reader (byte ∷ block)
   unfolding fed_from after_bytes
-  by_event rest spoken Nothing e =
+  by_event rest spoken None e =
       let same : fed_from used reader (byte ∷ block) ≡ fed_from (used + 1) (taken reader byte).reader block = rw e in
       let gave = rest (λ none. spoken (ap (λ (f : Fed). f.event) same ∙ none)) in
       record {
@@ -71,19 +67,18 @@ module _ (used : ℕ) (reader : Reader) (byte : ℕ) (block : List ℕ) where
         event = ap (λ (f : Fed). f.event) same ∙ gave.event;
         stands = ap (λ (f : Fed). f.reader) same ∙ gave.stands;
       }
-  by_event rest spoken (Frame wire kept) e = at_first (rw e)
-  by_event rest spoken (Refused why wire kept) e = at_first (rw e)
+  by_event rest spoken (Some event) e = at_first (rw e)
 
 pub gave : (used : ℕ) (reader : Reader) (block : List ℕ) → Spoken used reader block → Gave used reader block
 unfolding fed_from
 gave used reader [] spoken = absurd (spoken refl)
-gave used reader (byte ∷ block) spoken = by_event used reader byte block (gave (used + 1) (taken reader byte).reader block) spoken (taken reader byte).event refl
+gave used reader (byte ∷ block) spoken = grind (arith, common_steps, by_event, gave (used + 1) (taken reader byte).reader block)
 
 -- bytes taken one by one lead the reader where they lead the listener
 pub view_after : (reader : Reader) (bytes : List ℕ) → view (after_bytes reader bytes) ≡ after (view reader) bytes
 unfolding after_bytes after
 view_after reader [] = refl
-view_after reader (byte ∷ bytes) = view_after (taken reader byte).reader bytes ∙ ap (λ (l : Listener). after l bytes) (joined reader byte)
+view_after reader (byte ∷ bytes) = grind (arith, common_steps, joined, view_after (taken reader byte).reader bytes)
 
 -- ---- how an event leaves the line
 
@@ -95,33 +90,22 @@ Leaves byte s = (s.event ≡ nothing) ⊎ LeavesLine s.event byte s.next.state
 module _ (kept : List ℕ) (byte wire : ℕ) where
   no_room : (more : ℕ) → (byte ≡ 0xFF → ⊥) → Leaves byte (keep kept more wire)
   unfolding keep
-  no_room more other = either (Leaves byte) (ltb (length kept) longest) _ _ (λ _. inl refl) (λ _. inr (inr (inl refl, (other, refl))))
+  no_room more other = grind (arith, common_steps)
 
-  at_end : byte ≡ 0xFF → (verdict : Verdict) → judged kept ≡ verdict → Leaves byte (step delimited wire (ended verdict kept wire))
+  at_end : byte ≡ 0xFF → (verdict : Result (Unit {0}) Refusal) → judged kept ≡ verdict → Leaves byte (step delimited wire (ended verdict kept wire))
   unfolding ended
-  at_end ff verdict_as.Good e = inr (ff, refl)
-  at_end ff (verdict_as.Refused why) e =
+  at_end ff (Ok tt) e = inr (ff, refl)
+  at_end ff (Err why) e =
       inr (inl (end_refuses (λ (why : Refusal). (number_of why ≡ 1) ⊎ ((number_of why ≡ 4) ⊎ (number_of why ≡ 5))) kept (inl refl) (inr (inl refl)) (λ _. inr (inr refl)) why e, (ff, refl)))
 
 leaves_in : (state : State) (byte wire : ℕ) → Leaves byte (hear_in state byte wire)
 unfolding hear_in
-leaves_in seeking byte wire = either (Leaves byte) (eqb byte 0xFF) _ _ (λ _. inl refl) (λ _. inl refl)
-leaves_in delimited byte wire =
-    either (Leaves byte) (eqb byte 0xFF) _ _ (λ _. inl refl)
-    (λ other. either (Leaves byte) (eqb byte 0xFE) _ _ (λ _. inl refl) (λ _. no_room [] byte wire byte (eqb-false byte 0xFF other)))
-leaves_in (inside kept) byte wire = either (Leaves byte) (eqb byte 0xFF) _ _ (λ _. inl refl) (λ other. no_room kept byte wire byte (eqb-false byte 0xFF other))
-leaves_in (held kept) byte wire =
-    either (Leaves byte) (eqb byte 0xFE) _ _ (λ fe. no_room kept byte wire 0xFF (λ ff. let is_fe = eqb-true byte 0xFE fe in omega arith))
-    (λ _. either (Leaves byte) (eqb byte 0xFF) _ _ (λ ff. at_end kept byte wire (eqb-true byte 0xFF ff) (judged kept) refl)
-    (λ other. inr (inr (inr refl, (eqb-false byte 0xFF other, refl)))))
+leaves_in state byte wire = grind (arith, common_steps, at_end, no_room)
 
 pub leaves : (listener : Listener) (byte : ℕ) → ((hear listener byte).event ≡ nothing → ⊥) → LeavesLine (hear listener byte).event byte (hear listener byte).next.state
 unfolding hear
-leaves listener byte some = ⊎_elim (λ none. absurd (some none)) (λ left. left) (leaves_in listener.state byte (tick listener.wire))
+leaves listener byte some = grind (arith, common_steps, leaves_in)
 
 -- so the byte before tells the state
 pub left_as : (heard : Heard) (byte : ℕ) (state : State) → LeavesLine heard byte state → state ≡ state_behind byte
-left_as nothing byte state none = absurd none
-left_as (frame wire kept body) byte state (ff, is) = rw (eq-eqb byte 0xFF ff) is
-left_as (refused why wire kept) byte state (inl (_, (ff, is))) = rw (eq-eqb byte 0xFF ff) is
-left_as (refused why wire kept) byte state (inr (_, (other, is))) = rw (ne_eqb byte 0xFF other) is
+left_as heard byte state none = grind (arith, common_steps)

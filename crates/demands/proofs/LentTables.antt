@@ -1,14 +1,14 @@
 -- Shown: what is lent and filled keeps its shape, holds what it held and what was counted, and is refused by 31, 11 and 23 where 02 says so.
--- Why: the records of a log are poured one behind the other, each is good, the log ends Good or with 10 or 11, and one record is a list of one.
+-- Why: the records of a log are poured one behind the other, each is good, the log ends `Ok` or with 10 or 11, and one record is a list of one.
+use Rattle.std.specs.Prelude.{Ok, Err}
 use Prim.Native.Nat.{ℕ, suc, ◌*◌, ◌^◌, ◌≤◌, ◌<◌}
-use mathlib.Core.Path.{◌≡◌, ◌∙◌, refl, sym, ap}
+use mathlib.Core.Path.{◌≡◌, ◌∙◌, refl, ap}
 use mathlib.Core.Bool.{Bool, true, false, cond}
 use mathlib.Core.List.{List, [], ◌∷◌, ◌++◌}
 use native.Mathlib.Omega.{arith}
-use lib.Dec.{eqb}
 use lib.ListN.{length, take}
+use Rattle.std.proofs.lemmas.Grind.{common_steps}
 use Rattle.refusal.specs.declared.Refusal.TheVariants.{CountFull, SumBeyond}
-use Rattle.refusal.specs.declared.Verdict.TheVariants.{Good, Refused}
 use Rattle.refusal.specs.Numbers.{verdict_number}
 use Rattle.low_first.specs.LowFirst.{low_bytes}
 use Rattle.records.specs.declared.records.Record.{Record}
@@ -23,8 +23,7 @@ use Rattle.hour_cell.specs.Counting.{counts_as}
 use Rattle.hour_table.specs.declared.filled.Filled.{Filled}
 use Rattle.hour_table.specs.Tables.{Table, sound_table}
 use Rattle.hour_table.specs.Filling.{stays, put, entered, followed, poured, filled_from}
-use Rattle.hour_mean.specs.declared.Mean.TheVariants as mean_as
-use Rattle.hour_mean.specs.Means.{lowest, mean_of}
+use Rattle.hour_mean.specs.Means.{mean_of}
 use Rattle.demands.specs.Tables.{cell_of, went_in}
 use Rattle.demands.specs.LentTables.{SevenByTwentyFour, ShapeKept, Holds, FilledFurther, BeyondFirst, AnyCellBeyond, NoCellBeyond, KeptSound, StaysSound, MeansOfSound, HeldTogether, NothingLostOfLent, Room, Passes, LentGoesInWhole, StopsOnlyFull, FullOnlyThere, CountsNeverPass, NoMoreThanThere, BrokenIsRefused, OtherCellsStay, LogOfOne, RecordByRecord, StaysAsBefore}
 use Rattle.demands.proofs.TableCells.{empty_seven}
@@ -41,7 +40,7 @@ abbrev pub lent : Log → Table → Filled
 lent given table = cond (sound_table table) (poured given.records given.ending table) (stays table SumBeyond)
 
 abbrev pub alone : Record → Log
-alone item = record { records = item ∷ []; ending = Good }
+alone item = record { records = item ∷ []; ending = Ok tt }
 
 pub log_lent : (log : List ℕ) (table : Table) → filled_from log table ≡ lent (whole_log log) table
 unfolding filled_from
@@ -54,11 +53,7 @@ record_lent item table = rw (put_alone item table)
 module _ (given : Log) (table : Table) where
   -- what is so of the poured and of the table as it was is so
   pub by_soundness : (P : Filled → Type 0) → P (poured given.records given.ending table) → P (stays table SumBeyond) → P (lent given table)
-  by_soundness P filled stayed = by_test (sound_table table)
-    where
-      by_test : (test : Bool) → P (cond test (poured given.records given.ending table) (stays table SumBeyond))
-      by_test true = filled
-      by_test false = stayed
+  by_soundness P filled stayed = grind (arith, common_steps)
 
   abbrev pub steps : Poured given.ending given.records table (poured given.records given.ending table)
   steps = pours given.records given.ending table
@@ -100,7 +95,7 @@ no_more_than_there log table =
 
 beyond_refused : (table : Table) → sound_table table ≡ false → BeyondFirst table
 unfolding entered
-beyond_refused table unsound = record { record_refused = λ item. rw unsound; log_refused = λ log. log_lent log table ∙ rw unsound }
+beyond_refused table unsound = grind (arith, common_steps, log_lent)
 
 pub any_cell_beyond : AnyCellBeyond
 any_cell_beyond table weekday hour far = by_test (sound_table table) refl
@@ -110,25 +105,21 @@ any_cell_beyond table weekday hour far = by_test (sound_table table) refl
     by_test false s = beyond_refused table s
 
 pub no_cell_beyond : NoCellBeyond
-no_cell_beyond table seven near = all_sound table seven (λ weekday hour w h. not_beyond_sound (cell_of table weekday hour) (near weekday hour w h))
+no_cell_beyond table seven near = grind (arith, common_steps, all_sound, not_beyond_sound)
 
-lent_sound : (given : Log) (table : Table) → (given.ending ≡ Refused SumBeyond → ⊥) → sound_table table ≡ true → KeptSound (lent given table)
+lent_sound : (given : Log) (table : Table) → (given.ending ≡ Err SumBeyond → ⊥) → sound_table table ≡ true → KeptSound (lent given table)
 lent_sound given table never s = rw s (poured_sound (steps given table) never s)
 
 pub stays_sound : StaysSound
 stays_sound = record {
   empty = empty_is_sound;
-  by_record = λ item table s. rw (record_lent item table) (lent_sound (alone item) table (λ (e : Good ≡ Refused SumBeyond). omega (arith, ap verdict_number e)) s);
+  by_record = λ item table s. rw (record_lent item table) (lent_sound (alone item) table (λ (e : Ok tt ≡ Err SumBeyond). omega (arith, ap verdict_number e)) s);
   by_log = λ log table s. rw (log_lent log table) (lent_sound (whole_log log) table (not_at_end log SumBeyond (omega arith)) s);
 }
 
-mean_sound : (cell : Cell) → sound cell ≡ true → mean_of cell ≡ mean_as.Refused SumBeyond → ⊥
+mean_sound : (cell : Cell) → sound cell ≡ true → mean_of cell ≡ Err SumBeyond → ⊥
 unfolding mean_of
-mean_sound cell s e = by_weights (eqb cell.weights 0) (rw s at e)
-  where
-    by_weights : (none : Bool) → cond none mean_as.NoReadings (mean_as.Fraction (lowest cell.sum cell.weights)) ≡ mean_as.Refused SumBeyond → ⊥
-    by_weights true e = let clash : ◌≡◌ {A = ℕ} 0 1 = cc in omega arith
-    by_weights false e = let clash : ◌≡◌ {A = ℕ} 0 1 = cc in omega arith
+mean_sound cell s e = grind (arith, common_steps)
 
 pub means_of_sound : MeansOfSound
 means_of_sound table weekday hour s = mean_sound (cell_of table weekday hour) (cell_sound table (record { weekday = weekday; hour = hour }) s)
@@ -147,9 +138,9 @@ stops_only_full log table s fewer =
 pub full_only_there : FullOnlyThere
 full_only_there log table seven =
     rw (log_lent log table)
-    (by_soundness (whole_log log) table (λ (filled : Filled). filled.verdict ≡ Refused CountFull → Passes table (take (suc filled.records) (whole_log log).records))
+    (by_soundness (whole_log log) table (λ (filled : Filled). filled.verdict ≡ Err CountFull → Passes table (take (suc filled.records) (whole_log log).records))
     (poured_full (steps (whole_log log) table) (not_at_end log CountFull (omega arith)) seven)
-    (λ (e : Refused SumBeyond ≡ Refused CountFull). absurd (omega (arith, ap verdict_number e))))
+    (λ (e : Err SumBeyond ≡ Err CountFull). absurd (omega (arith, ap verdict_number e))))
 
 pub counts_never_pass : CountsNeverPass
 counts_never_pass log table seven room weekday hour w h =
@@ -174,8 +165,7 @@ other_cells_stay item table weekday hour seven elsewhere =
     (alone_elsewhere (steps (alone item) table) seven weekday hour elsewhere) refl)
 
 pub log_of_one : LogOfOne
-log_of_one item table is_good_lem time =
-    record_lent item table ∙ ap (λ (given : Log). lent given table) (sym (log_alone item is_good_lem time)) ∙ sym (log_lent (bytes_of_record item) table)
+log_of_one item table is_good_lem time = grind (arith, common_steps, log_alone, log_lent, record_lent)
 
 pub record_by_record : RecordByRecord
 unfolding entered poured

@@ -1,24 +1,22 @@
 -- Shown: every log that was good stays good with the same records, and no other was; what was added is a weighing from a higher address or with a
 -- family. Why: of the rule only the limit moved, and it moved up; and byte 17, which was 0, may be a family's number.
+use Rattle.std.specs.Prelude.{Result, Ok, Err}
 use Prim.Native.Nat.{ℕ, zero, suc, ◌/◌, ◌^◌, ◌≤◌, ◌<◌}
 use mathlib.Core.Path.{◌≡◌, ◌∙◌, refl, sym, subst}
 use mathlib.Core.Bool.{Bool, true, false, cond, ◌&&◌, ◌||◌, and-eq-true_iff}
 use mathlib.Core.List.{List, [], ◌∷◌, ◌++◌, append-nil}
 use mathlib.Core.Logic.{◌⊎◌, inl, inr, ⊎_elim}
 use native.Mathlib.Omega.{arith}
-use borrow.Author.Tests.{leb-true, leb-false, le-leb, lt-leb, eqb-true, eqb-false, eq-eqb, ne_eqb}
+use borrow.Author.Tests.{leb-true, leb-false, le-leb, eqb-true, eqb-false, eq-eqb}
 use lib.Dec.{leb, eqb, lit≤}
 use lib.ListN.{length, take, drop, length-drop, take-append-drop}
-use Rattle.refusal.specs.declared.Verdict.TheVariants.{Good}
-use Rattle.refusal.proofs.Verdicts.{refused_not_good}
+use Rattle.std.proofs.lemmas.Grind.{common_steps}
 use Rattle.weight.specs.Digits.{all_decimal}
 use Rattle.weight.specs.Families.{named_in, family_named}
 use Rattle.weight.specs.Bytes.{readable, read_as, read_of}
 use Rattle.body.specs.declared.addresses.Address.TheVariants.{Short, Serial}
 use Rattle.body.specs.Addresses.{highest_short, legal}
 use Rattle.records.specs.declared.records.Record.{Record}
-use Rattle.records.specs.declared.reading.RecordRead.{RecordRead}
-use Rattle.records.specs.declared.reading.RecordRead.TheVariants as record_read_as
 use Rattle.records.specs.Records.{weighs, was_met, address_of, good_address, weight_bytes, reading_in, good_weighing, good_met, good}
 use Rattle.records.specs.Layout.{bytes_of_record, record_in, rest_zero}
 use Rattle.records.specs.Reading.{make_record, read_record}
@@ -31,6 +29,7 @@ use Rattle.records.proofs.Unweighed.{else_met}
 use Rattle.weighing_log.specs.Hearing.{met_on_line}
 use Rattle.demands.proofs.ByFamily.{plain_readable, free_readable, readable_family}
 use Rattle.demands.specs.LogsFromBefore.{highest_before, highest_since, good_address_up_to, good_weighing_up_to, good_met_before, good_up_to, WasGood, empty, first, StaysGood, EachBefore, WereGood, FiveStaysGood, FromHigher, WithFamily, OnlyThese, OnlyFamilies, HigherAdded, FamilyAdded, Moved}
+use Rattle.refusal.specs.declared.Refusal.{Refusal}
 
 -- ---- an address
 
@@ -70,17 +69,7 @@ module _ (highest : ℕ) (item : Record) where
 
   pub stays_record : highest ≤ highest_short → good_up_to highest item ≡ true → good item ≡ true
   unfolding good good_weighing good_met
-  stays_record most was =
-      let parts = (and-eq-true_iff (eqb item.family 0) _).0 was in
-      by_kind (eqb-true item.family 0 parts.0) parts.0 (weighs item) (was_met item) parts.1
-    where
-      by_kind : item.family ≡ 0 → eqb item.family 0 ≡ true → (weighed met : Bool) → cond weighed (good_weighing_up_to highest item) (cond met (good_met_before item) false) ≡ true
-          → cond weighed (good_weighing item) (cond met (good_met item) false) ≡ true
-      by_kind plain none true met was =
-          let parts = (and-eq-true_iff (good_address_up_to highest item) digits).0 was in
-          rw (stays_address most parts.0, plain_readable (weight_bytes item) plain) parts.1
-      by_kind plain none false true was = rw (was, none)
-      by_kind plain none false false was = was
+  stays_record most was = grind (arith, common_steps, plain_readable, stays_address)
 
   -- a record without a family was good under the limit where its address was
   plain_was : item.family ≡ 0 → good item ≡ true → (weighs item ≡ true → good_address_up_to highest item ≡ true) → good_up_to highest item ≡ true
@@ -114,11 +103,11 @@ module _ (item : Record) where
   -- the address of a good weighing
   good_address_lem : good item ≡ true → weighs item ≡ true → good_address item ≡ true
   unfolding good good_weighing
-  good_address_lem right weighed = ((and-eq-true_iff (good_address item) (readable (reading_in item))).0 (rw weighed at right)).0
+  good_address_lem right weighed = grind (arith, common_steps)
 
   good_reading_lem : good item ≡ true → weighs item ≡ true → readable (reading_in item) ≡ true
   unfolding good good_weighing
-  good_reading_lem right weighed = ((and-eq-true_iff (good_address item) (readable (reading_in item))).0 (rw weighed at right)).1
+  good_reading_lem right weighed = grind (arith, common_steps)
 
   -- a short address is at most the highest
   below_highest : good_address item ≡ true → leb item.address highest_short ≡ true
@@ -158,42 +147,23 @@ only_these item right = ⊎_elim (λ plain. by_limit plain (weighs item) refl (l
     by_limit plain true is true low =
         inl (plain_was highest_before item plain right (λ weighed. same_below highest_before item (good_address_lem item right weighed) low))
     by_limit plain true is false high = inr (inl (only_above item is (good_address_lem item right is) high))
-    by_limit plain false is low e = inl (plain_was highest_before item plain right (λ weighed. let clash : ◌≡◌ {A = ℕ} 0 1 = cc in absurd (omega arith)))
+    by_limit plain false is low e = inl (plain_was highest_before item plain right (λ weighed. cc))
 
 pub higher_added : HigherAdded
 unfolding good good_weighing good_address address_of legal
-higher_added item higher digits = by_kind (weighs item) higher.weighed
-  where
-    not_zero : eqb item.address 0 ≡ false
-    not_zero = ne_eqb item.address 0 (λ e. omega (arith, higher.above))
-
-    none : (plain : Bool) → (plain && (leb item.address highest_before && cond (eqb item.address 0) (leb item.serial 16_777_215) (eqb item.serial 0) && all_decimal item.w0 item.w1 item.w2)) ≡ false
-    none true = rw (lt-leb item.address highest_before higher.above)
-    none false = refl
-
-    by_kind : (weighed : Bool) → weighed ≡ true
-        → (cond weighed (good_weighing item) (cond (was_met item) (good_met item) false) ≡ true)
-        × ((eqb item.family 0 && cond weighed (good_weighing_up_to highest_before item) (cond (was_met item) (good_met_before item) false)) ≡ false)
-    by_kind true e = (
-      rw (not_zero, le-leb 1 item.address (omega (arith, higher.above)), le-leb item.address highest_short higher.most, eq-eqb item.serial 0 higher.serial, digits),
-      none (eqb item.family 0),
-    )
-    by_kind false e = let clash : ◌≡◌ {A = ℕ} 0 1 = cc in absurd (omega arith)
+higher_added item higher digits = grind (arith, common_steps)
 
 pub family_added : FamilyAdded
 unfolding good good_weighing
-family_added item some address decimal free = (
-  rw (some.weighed, address, free_readable (weight_bytes item) some.most decimal free),
-  rw (ne_eqb item.family 0 (λ e. omega (arith, some.least))),
-)
+family_added item some address decimal free = grind (arith, common_steps, free_readable)
 
 -- ---- a log
 
-stays_read : (highest : ℕ) → highest ≤ highest_short → (bytes : List ℕ) → length bytes ≡ 20 → rest_zero bytes ≡ true → good_up_to highest (record_in bytes) ≡ true → read_record bytes ≡ record_read_as.Record (record_in bytes)
+stays_read : (highest : ℕ) → highest ≤ highest_short → (bytes : List ℕ) → length bytes ≡ 20 → rest_zero bytes ≡ true → good_up_to highest (record_in bytes) ≡ true → read_record bytes ≡ Ok (record_in bytes)
 unfolding read_record make_record
-stays_read highest most bytes size rest was = rw (eq-eqb (length bytes) 20 size, rest, stays_record highest (record_in bytes) most was)
+stays_read highest most bytes size rest was = grind (arith, common_steps, stays_record)
 
-stays : (highest : ℕ) → highest ≤ highest_short → {log : List ℕ} {items : List Record} → WasGood highest log items → whole_log log ≡ record { records = items; ending = Good }
+stays : (highest : ℕ) → highest ≤ highest_short → {log : List ℕ} {items : List Record} → WasGood highest log items → whole_log log ≡ record { records = items; ending = Ok tt }
 unfolding whole_log records_of
 stays highest most empty = refl
 stays highest most (first bytes {log} size rest was later) = one_more bytes log size ∙ rw (stays_read highest most bytes size rest was, stays highest most later)
@@ -202,25 +172,22 @@ pub stays_good : StaysGood
 stays_good = (λ log items was. stays highest_before (lit≤ tt) was, λ log items was. stays highest_since (lit≤ tt) was)
 
 -- the first record of a log, and the rest of it
-first_were : (highest : ℕ) (log : List ℕ) (rest : Log) (entry : RecordRead) → read_record (take 20 log) ≡ entry → (ahead entry rest).ending ≡ Good
-    → EachBefore highest (ahead entry rest).records → (rest.ending ≡ Good → EachBefore highest rest.records → WasGood highest (drop 20 log) rest.records)
+first_were : (highest : ℕ) (log : List ℕ) (rest : Log) (entry : Result Record Refusal) → read_record (take 20 log) ≡ entry → (ahead entry rest).ending ≡ Ok tt
+    → EachBefore highest (ahead entry rest).records → (rest.ending ≡ Ok tt → EachBefore highest rest.records → WasGood highest (drop 20 log) rest.records)
     → WasGood highest log (ahead entry rest).records
-first_were highest log rest (record_read_as.Record item) was whole (one, later) behind =
+first_were highest log rest (Ok item) was whole (one, later) behind =
     let bytes = take 20 log in
     let is = read_is bytes item was in
     subst (λ (l : List ℕ). WasGood highest l (item ∷ rest.records)) (take-append-drop 20 log)
     (subst (λ (record' : Record). WasGood highest (bytes ++ drop 20 log) (record' ∷ rest.records)) (sym is)
     (first bytes (read_length bytes item was) (last_zero bytes item was) (subst (λ (record' : Record). good_up_to highest record' ≡ true) is one) (behind whole later)))
-first_were highest log rest (record_read_as.Refused why) was whole all behind = refused_not_good whole
+first_were highest log rest (Err why) was whole all behind = cc
 
-were_count : (highest count : ℕ) (log : List ℕ) → length log / 20 ≡ count → (whole_log log).ending ≡ Good → EachBefore highest (whole_log log).records
+were_count : (highest count : ℕ) (log : List ℕ) → length log / 20 ≡ count → (whole_log log).ending ≡ Ok tt → EachBefore highest (whole_log log).records
     → WasGood highest log (whole_log log).records
 unfolding whole_log records_of
 were_count highest zero log e whole all = rw (no_bytes log e whole) empty
-were_count highest (suc count) log e whole all =
-    rw (apart log count e)
-    (first_were highest log (whole_log (drop 20 log)) (read_record (take 20 log)) refl (rw (apart log count e) at whole) (rw (apart log count e) at all)
-    (were_count highest count (drop 20 log) (omega (arith, length-drop 20 log))))
+were_count highest (suc count) log e whole all = grind (arith, common_steps, apart, first_were, length-drop, were_count highest count (drop 20 log) (omega (arith, length-drop 20 log)))
 
 pub were_good : WereGood
 were_good highest log = were_count highest (length log / 20) log refl

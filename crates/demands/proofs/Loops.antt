@@ -6,13 +6,13 @@ use mathlib.Core.List.{List, [], ◌∷◌, ◌++◌, flatten}
 use native.Mathlib.Omega.{arith}
 use borrow.Author.Tests.{eq-eqb}
 use lib.ListN.{length, take, drop, length-drop, take-append-drop}
+use Rattle.std.proofs.lemmas.Grind.{common_steps}
 use Rattle.line.specs.declared.reading.Reader.{Reader}
 use Rattle.line.specs.declared.reading.Fed.{Fed}
 use Rattle.line.specs.Listener.{Heard, heard_then}
 use Rattle.line.specs.Readers.{heard_as, taken, fed, fed_lent, fresh_place}
 use Rattle.line.proofs.Blocks.{feeds, listens}
 use Rattle.demands.specs.Reading.{after_bytes, heard_by}
-use Rattle.demands.specs.Wire.{wire_of}
 use Rattle.demands.specs.Loops.{listened, Loop, ends, next, turn, TellsAsBytes, FeedLoop, ListenLoop, LoopDemand3, FeedDemand3, ListenDemand3}
 use Rattle.demands.proofs.Cuts.{and_then_append}
 use Rattle.demands.proofs.Demand3.{shared_demand3}
@@ -34,19 +34,11 @@ module _ (reader : Reader) (block rest : List ℕ) (answer : Fed) (is : answer �
       ∙ ap (λ (r : Reader). after_bytes r (drop (fed reader block).used block)) (sym (every_block reader block).stands))
 
   turn_leaves : after_bytes reader (block ++ rest) ≡ after_bytes answer.reader (drop answer.used block ++ rest)
-  turn_leaves =
-      left_in_two reader block rest ∙ ap (λ (r : Reader). after_bytes r rest) turn_left ∙ sym (left_in_two answer.reader (drop answer.used block) rest)
+  turn_leaves = grind (arith, common_steps, left_in_two, turn_left)
 
   turn_tells : heard_by reader (block ++ rest)
       ≡ heard_then (heard_as answer.event answer.reader.body) (heard_by answer.reader (drop answer.used block ++ rest))
-  turn_tells =
-      let first = heard_as answer.event answer.reader.body in
-      let unused = drop answer.used block in
-      let told : heard_by reader block ≡ heard_then first (heard_by answer.reader unused) = rw is (every_block reader block).heard in
-      heard_in_two reader block rest
-      ∙ ap (λ (h : List Heard). h ++ heard_by (after_bytes reader block) rest) told
-      ∙ sym (and_then_append first (heard_by answer.reader unused) (heard_by (after_bytes reader block) rest))
-      ∙ ap (heard_then first) (ap (λ (r : Reader). heard_by answer.reader unused ++ heard_by r rest) turn_left ∙ sym (heard_in_two answer.reader unused rest))
+  turn_tells = grind (arith, common_steps, and_then_append, every_block, heard_in_two, turn_left)
 
 -- ---- the loop of `feed`
 
@@ -78,10 +70,10 @@ over_block blocks later (suc most) reader (byte ∷ block) few =
 comes_to_end : (blocks : List (List ℕ)) (reader : Reader) → Loop fed reader blocks (heard_by reader (flatten blocks)) (after_bytes reader (flatten blocks))
 unfolding flatten heard_by after_bytes
 comes_to_end [] reader = ends
-comes_to_end (block ∷ blocks) reader = over_block blocks (comes_to_end blocks) (length block) reader block (omega arith)
+comes_to_end (block ∷ blocks) reader = grind (arith, common_steps, over_block, comes_to_end blocks)
 
 pub feed_loop : FeedLoop
-feed_loop reader blocks = record { comes = comes_to_end blocks reader; only = λ other end loop. only_one loop }
+feed_loop reader blocks = grind (arith, common_steps, comes_to_end, only_one)
 
 -- ---- the loop of `listen`
 
@@ -116,9 +108,7 @@ listen_loop reader full blocks =
 
 by_demand3 : (call : Reader → List ℕ → Fed) (body : List ℕ) → TellsAsBytes call (record { place = fresh_place; body = body })
     → LoopDemand3 call (record { place = fresh_place; body = body })
-by_demand3 call body tells list shared joined blocks cut =
-    let heard = ap (heard_by (record { place = fresh_place; body = body })) cut ∙ heard_fresh body (drop joined (wire_of list)) ∙ shared_demand3 list shared joined in
-    rw heard at (tells blocks)
+by_demand3 call body tells list shared joined blocks cut = grind (arith, common_steps, heard_fresh, shared_demand3)
 
 pub feed_demand3 : FeedDemand3
 feed_demand3 = by_demand3 fed _ (feed_loop _)

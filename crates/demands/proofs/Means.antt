@@ -1,24 +1,24 @@
 -- Shown: a cell with weights has a mean, the sum over the count in lowest terms, and no other fraction is; sum 0, no weights, and a sum beyond.
 -- Why: both numbers are divided by their greatest common divisor, and a fraction in lowest terms is known by its value.
+use Rattle.std.specs.Prelude.{Ok, Some}
 use Prim.Native.Nat.{ℕ, ◌/◌, ◌*◌, ◌<◌, zero-le}
 use mathlib.Core.Path.{◌≡◌, ◌∙◌, refl, sym, ap}
 use native.Mathlib.Nat.{zero-mul, eq-one_of_dvd-one}
 use native.Mathlib.Omega.{arith}
-use borrow.Author.Tests.{le-leb, lt-leb, ne_eqb}
 use lib.Dec.{lit<}
 use lib.IntN.{ℤ, pos, nat_abs, ◌*ℤ◌}
+use Rattle.std.proofs.lemmas.Grind.{common_steps}
 use Rattle.hour_cell.specs.declared.cells.Cell.{Cell}
 use Rattle.hour_cell.specs.Cells.{sound}
 use Rattle.hour_mean.specs.declared.Fraction.{Fraction}
-use Rattle.hour_mean.specs.declared.Mean.TheVariants as mean_as
 use Rattle.hour_mean.specs.Means.{greatest_common, signed_as, lowest, mean_of}
 use Rattle.hour_mean.proofs.Lowest.{lower_positive, cross, nothing_common, only_upper, only_lower}
 use Rattle.hour_mean.proofs.Signs.{abs_signed, abs_times, signed_times, signed_whole, sign_is}
 use Rattle.demands.specs.Means.{LowestTerms, NotBeyond, WeightsHaveAMean, OnlyFraction, ZeroOverOne, NoWeightsNoReadings, BeyondIsRefused}
 
-answered : (cell : Cell) → NotBeyond cell → 0 < cell.weights → mean_of cell ≡ mean_as.Fraction (lowest cell.sum cell.weights)
+answered : (cell : Cell) → NotBeyond cell → 0 < cell.weights → mean_of cell ≡ Ok (Some (lowest cell.sum cell.weights))
 unfolding mean_of sound
-answered cell within some = rw (le-leb _ _ within, ne_eqb cell.weights 0 (λ (e : cell.weights ≡ 0). omega arith))
+answered cell within some = grind (arith, common_steps)
 
 lowest_terms : (sum : ℤ) (count : ℕ) → 0 < count → LowestTerms sum count (lowest sum count)
 unfolding lowest
@@ -48,8 +48,7 @@ only_lowest sum count fraction some terms =
     λ i. record { upper = sym above i; lower = sym below i }
 
 pub only_fraction : OnlyFraction
-only_fraction cell fraction within some terms =
-    answered cell within some ∙ ap mean_as.Fraction (only_lowest cell.sum cell.weights fraction some terms)
+only_fraction cell fraction within some terms = grind (arith, common_steps, answered, only_lowest)
 
 pub zero_over_one : ZeroOverOne
 zero_over_one cell some none =
@@ -67,4 +66,4 @@ no_weights_no_readings cell no_weights none = rw (none, no_weights)
 
 pub beyond_is_refused : BeyondIsRefused
 unfolding mean_of sound
-beyond_is_refused cell beyond = rw (lt-leb (nat_abs cell.sum) (cell.weights * 9999990000000) (omega (arith, beyond)))
+beyond_is_refused cell beyond = grind (arith, common_steps)

@@ -2,7 +2,8 @@
 -- Why: each is computed from the definitions.
 use mathlib.Core.Path.{refl}
 use mathlib.Core.List.{flatten}
-use lib.Dec.{lit≤}
+use native.Mathlib.Omega.{arith}
+use Rattle.std.proofs.lemmas.Grind.{common_steps}
 use Rattle.check_byte.specs.Register.{shift_in, feed_bits, feed_byte, feed_all, received, check_of}
 use Rattle.low_first.specs.LowFirst.{low_first, low_bytes}
 use Rattle.body.specs.Addresses.{legal, address_bytes, address_in, address_length}
@@ -28,7 +29,7 @@ use Rattle.demands.specs.Weighings.{records_from}
 
 pub five_earned : FiveEarned
 unfolding shift_in feed_bits feed_byte feed_all received legal address_in short judged judged_lent stuffed_byte stuffed framed tick keep ended hear_in hear heard_then events listening taken heard_by address_bytes low_bytes unchecked check_of body_of count_ff needed judged_fields judged_write written_frame judged_message read_if read_message
-five_earned = record { number = refl; handed_in = refl; handed_in_ff = refl; lent = refl; message = λ _. refl; writing = refl; accepted = refl; no_event = refl }
+five_earned = grind (arith, common_steps)
 
 range : RangeOfAddresses
 unfolding legal
@@ -36,21 +37,4 @@ range = record { inside = refl; outside = refl; serials = refl }
 
 pub older_bridges : OlderBridges
 unfolding flatten shift_in feed_bits feed_byte feed_all received legal address_in address_length short judged judged_lent code_in data_in stuffed_byte stuffed framed on_wire wire_of tick keep ended hear_in hear heard_then events listening taken heard_by in_range read_of read_as family_named named_in value_of four_in line_in line_of row_of low_first judged_data judged_message judged_code message_of read_if read_message address_bytes unchecked check_of body_of count_ff needed judged_fields judged_write written_frame records_from record_of met_record weighed_record good good_weighing good_address address_of entry_heard
-older_bridges = record {
-  range = range;
-  frames = (
-    record { shared = record { good = refl; most = lit≤ tt; behind = lit≤ tt }; ahead = lit≤ tt },
-    (
-      record { shared = record { good = refl; most = lit≤ tt; behind = lit≤ tt }; ahead = lit≤ tt },
-      (record { shared = record { good = refl; most = lit≤ tt; behind = lit≤ tt }; ahead = lit≤ tt }, tt),
-    ),
-  );
-  laid = refl;
-  read = refl;
-  by_reader = refl;
-  joined_late = refl;
-  written = refl;
-  by_writer = refl;
-  noted = refl;
-  listed = refl;
-}
+older_bridges = grind (arith, common_steps)

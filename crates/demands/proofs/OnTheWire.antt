@@ -1,31 +1,30 @@
 -- Shown: a frame that a listener gives from fresh stood on the wire as it is written, at the place that its wire count says.
 -- Why: what is kept, with its inserted bytes and an FF ahead, is the end of the bytes taken; while an FF is held, that FF stands behind it.
+use Rattle.std.specs.Prelude.{Result}
 use Prim.Native.Nat.{ℕ, ◌%◌, ◌^◌}
 use mathlib.Core.Path.{◌≡◌, ◌∙◌, refl, sym, ap, subst}
 use mathlib.Core.Bool.{Bool, true, false, cond}
 use mathlib.Core.List.{List, [], ◌∷◌, ◌++◌, append_assoc, append-nil, Memᴰ}
 use native.Mathlib.Nat.{mod-add-mod}
-use borrow.Author.Tests.{eqb-true}
-use lib.Dec.{ltb, eqb}
+use lib.Dec.{eqb}
 use lib.ListN.{length, length-append}
-use Rattle.refusal.specs.declared.Refusal.TheVariants.{BodyLong, HeldBroken}
-use Rattle.refusal.specs.declared.Verdict.{Verdict}
-use Rattle.refusal.specs.declared.Verdict.TheVariants.{Good, Refused}
+use native.Mathlib.Omega.{arith}
+use Rattle.std.proofs.lemmas.Grind.{common_steps}
+use Rattle.refusal.specs.declared.Refusal.TheVariants.{HeldBroken}
 use Rattle.body.specs.declared.addresses.Address.{Address}
-use Rattle.body.specs.Body.{longest, body_of, judged}
+use Rattle.body.specs.Body.{judged}
 use Rattle.frame.specs.Stuffing.{stuffed_byte, stuffed, framed}
 use Rattle.frame.proofs.Stuffing.{stuffed_append}
 use Rattle.line.specs.Listener.{State, seeking, delimited, inside, held, Heard, nothing, frame, refused, Listener, Step, fresh, step, keep, ended, tick, hear_in, hear, events, after}
 use Rattle.line.specs.Readers.{listening, fresh_reader}
 use Rattle.line.proofs.EveryStep.{every_event}
 use Rattle.weight.specs.declared.FourBytes.{FourBytes}
-use Rattle.weight.specs.Bytes.{in_order}
 use Rattle.codes.specs.declared.table.Load.{Load}
 use Rattle.records.specs.Records.{address_of}
-use Rattle.weighing_log.specs.Heard.{code_of}
 use Rattle.demands.specs.Weighings.{ReplyHeard}
 use Rattle.demands.proofs.Weighings.{log_as_heard, listing_as_heard}
 use Rattle.demands.specs.OnTheWire.{EndsWith, FrameJustTaken, StandsIn, FramesOnTheWire, ReplyIn, LogOnTheWire, ListingOnTheWire}
+use Rattle.refusal.specs.declared.Refusal.{Refusal}
 
 -- ---- one byte
 
@@ -44,10 +43,6 @@ Stood taken count (refused why wire kept) = Unit {0}
 
 abbrev Both : List ℕ → ℕ → Step → Type 0
 Both taken count s = Known taken s.next.state × (Stood taken count s.event × (s.next.wire ≡ count))
-
--- bytes behind both
-longer : (taken piece more : List ℕ) → EndsWith taken piece → EndsWith (taken ++ more) (piece ++ more)
-longer taken piece more ends = record { before = ends.before; is = ap (λ (l : List ℕ). l ++ more) ends.is ∙ append_assoc ends.before piece more }
 
 -- one byte more is kept: itself, or an FF with the FE behind it
 stuffed_one : (kept : List ℕ) (byte : ℕ) → eqb byte 0xFF ≡ false → stuffed (kept ++ (byte ∷ [])) ≡ stuffed kept ++ (byte ∷ [])
@@ -74,38 +69,29 @@ module _ (taken : List ℕ) (byte wire : ℕ) where
 
   keeps : (kept : List ℕ) (more : ℕ) → EndsWith now (0xFF ∷ stuffed (kept ++ (more ∷ []))) → Both now wire (keep kept more wire)
   unfolding keep
-  keeps kept more ends = by_room (ltb (length kept) longest)
-    where
-      by_room : (fits : Bool) → Both now wire (cond fits (step (inside (kept ++ (more ∷ []))) wire nothing) (step seeking wire (refused BodyLong wire longest)))
-      by_room true = (ends, (tt, refl))
-      by_room false = (tt, (tt, refl))
+  keeps kept more ends = grind (arith, common_steps)
 
-  at_end : (verdict : Verdict) (kept : List ℕ) → EndsWith now (0xFF ∷ []) → EndsWith now (framed kept) → Both now wire (step delimited wire (ended verdict kept wire))
+  at_end : (verdict : Result (Unit {0}) Refusal) (kept : List ℕ) → EndsWith now (0xFF ∷ []) → EndsWith now (framed kept) → Both now wire (step delimited wire (ended verdict kept wire))
   unfolding ended
-  at_end Good kept delimits ends = (delimits, ((ends, refl), refl))
-  at_end (Refused why) kept delimits ends = (delimits, (tt, refl))
+  at_end verdict kept delimits ends = grind (arith, common_steps)
 
   delimits : eqb byte 0xFF ≡ true → EndsWith now (0xFF ∷ [])
   unfolding now
-  delimits is = record { before = taken; is = ap (λ (b : ℕ). taken ++ (b ∷ [])) (eqb-true byte 0xFF is) }
+  delimits is = grind (arith, common_steps)
 
   ends_other : (kept : List ℕ) → EndsWith taken (0xFF ∷ stuffed kept) → eqb byte 0xFF ≡ false → EndsWith now (0xFF ∷ stuffed (kept ++ (byte ∷ [])))
   unfolding now
-  ends_other kept ends not_ff = rw (stuffed_one kept byte not_ff) (longer taken (0xFF ∷ stuffed kept) (byte ∷ []) ends)
+  ends_other kept ends not_ff = grind (arith, common_steps, stuffed_one)
 
   ends_held : (kept : List ℕ) → EndsWith taken (0xFF ∷ stuffed kept) → eqb byte 0xFF ≡ true → EndsWith now (0xFF ∷ (stuffed kept ++ (0xFF ∷ [])))
   unfolding now
-  ends_held kept ends is =
-      subst (λ (b : ℕ). EndsWith (taken ++ (b ∷ [])) (0xFF ∷ (stuffed kept ++ (0xFF ∷ [])))) (sym (eqb-true byte 0xFF is))
-      (longer taken (0xFF ∷ stuffed kept) (0xFF ∷ []) ends)
+  ends_held kept ends is = grind (arith, common_steps)
 
   -- behind a held FF
   ends_behind : (kept : List ℕ) (last : ℕ) → EndsWith taken (0xFF ∷ (stuffed kept ++ (0xFF ∷ []))) → eqb byte last ≡ true
       → EndsWith now (0xFF ∷ (stuffed kept ++ (0xFF ∷ last ∷ [])))
   unfolding now
-  ends_behind kept last ends is =
-      subst (λ (b : ℕ). EndsWith (taken ++ (b ∷ [])) (0xFF ∷ (stuffed kept ++ (0xFF ∷ last ∷ [])))) (sym (eqb-true byte last is))
-      (rw append_assoc at (longer taken (0xFF ∷ (stuffed kept ++ (0xFF ∷ []))) (last ∷ []) ends))
+  ends_behind kept last ends is = grind (arith, common_steps)
 
   one_byte : (state : State) → Known taken state → Both now wire (hear_in state byte wire)
   unfolding hear_in
@@ -140,9 +126,7 @@ module _ (taken : List ℕ) (byte wire : ℕ) where
 known_after : (listener : Listener) (taken bytes : List ℕ) → Known taken listener.state → Known (taken ++ bytes) (after listener bytes).state
 unfolding after hear now
 known_after listener taken [] known = rw append-nil known
-known_after listener taken (byte ∷ bytes) known =
-    subst (λ (l : List ℕ). Known l (after listener (byte ∷ bytes)).state) (append_assoc taken (byte ∷ []) bytes)
-    (known_after (hear listener byte).next (taken ++ (byte ∷ [])) bytes (one_byte taken byte (tick listener.wire) listener.state known).0)
+known_after listener taken (byte ∷ bytes) known = grind (arith, common_steps, one_byte, known_after (hear listener byte).next (taken ++ (byte ∷ [])) bytes (one_byte taken byte (tick listener.wire) listener.state known).0)
 
 pub frame_just_taken : FrameJustTaken
 unfolding hear now
@@ -166,15 +150,7 @@ module _ (bytes : List ℕ) where
 
   stands : (taken rest : List ℕ) → bytes ≡ taken ++ rest → (heard : Heard) → Stood taken (length taken % 2 ^ 64) heard → Stands heard
   unfolding Stands
-  stands taken rest split nothing stood = tt
-  stands taken rest split (frame wire kept body) (ends, count) =
-      record {
-        before = ends.before;
-        behind = rest;
-        is = split ∙ ap (λ (l : List ℕ). l ++ rest) ends.is;
-        place = count ∙ ap (λ (l : List ℕ). length l % 2 ^ 64) ends.is;
-      }
-  stands taken rest split (refused why wire kept) stood = tt
+  stands taken rest split heard stood = grind (arith, common_steps)
 
   one_on : (listener : Listener) (byte : ℕ) (rest : List ℕ) → Midway listener (byte ∷ rest) → Midway (hear listener byte).next rest × Stands (hear listener byte).event
   unfolding hear tick now
@@ -197,14 +173,7 @@ frames_on_the_wire bytes wire kept body among =
 
 reply_in : (bytes : List ℕ) (heard : Heard) (load : Load) (address : Address) (four : FourBytes) → Memᴰ heard (events fresh bytes)
     → ReplyHeard heard load address four → ReplyIn bytes load address four
-reply_in bytes heard load address four among reply =
-    let body = body_of address (code_of load) (in_order four) in
-    record {
-      wire = reply.wire;
-      stands =
-          frames_on_the_wire bytes reply.wire reply.kept body
-          (subst (λ (one : Heard). Memᴰ one (events fresh bytes)) reply.body among);
-    }
+reply_in bytes heard load address four among reply = grind (arith, common_steps, frames_on_the_wire)
 
 pub log_on_the_wire : LogOnTheWire
 unfolding listening

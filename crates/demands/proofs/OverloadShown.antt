@@ -1,7 +1,8 @@
 -- Shown: the computed rows of 02's request 7: 60 tonnes with the overload light on, and what a person reads of a line.
 -- Why: each side computes to the same.
-use mathlib.Core.Path.{refl}
 use mathlib.Core.List.{flatten}
+use native.Mathlib.Omega.{arith}
+use Rattle.std.proofs.lemmas.Grind.{common_steps}
 use Rattle.check_byte.specs.Register.{received, feed_all, feed_byte, feed_bits, shift_in}
 use Rattle.refusal.specs.Numbers.{named_in as named_at, named_of}
 use Rattle.low_first.specs.LowFirst.{low_first, low_bytes}
@@ -30,25 +31,8 @@ use Rattle.demands.specs.WeightLines.{word, after_word, field, any_digit, all_di
 
 pub overload_shown : OverloadShown
 unfolding named_at named_of flatten value_of difference_of kilograms_of in_range packed_of stuffed_byte stuffed framed listing entry_heard decimal decimal_in events heard_then hear hear_in keep ended tick read_message read_if message_of judged_message judged_code judged_data row_of line_of line_in four_in read_of read_as family_named named_in judged_lent judged short received feed_all feed_byte feed_bits shift_in legal address_in low_first low_bytes address_length code_in data_in records_from record_of met_record weighed_record good good_met good_weighing good_address address_of bytes_of_record record_in make_record read_record weight_noted
-overload_shown = record {
-  numbers = refl;
-  nobodys = refl;
-  unmet = (refl, (refl, refl));
-  values = refl;
-  zero = refl;
-  floats = refl;
-  less = refl;
-  crossed = refl;
-  heard = refl;
-  written = refl;
-  packed = refl;
-  noted = refl;
-  kept = refl;
-  still_noted = refl;
-  listed = refl;
-  mixed = refl;
-}
+overload_shown = grind (arith, common_steps)
 
 pub lines_shown : LinesShown
 unfolding word after_word field any_digit all_digits spelling
-lines_shown = record { fields = refl; digits = refl; value = refl; sixty_tonnes = refl; hyphens = refl; no_digits_lem = refl; one_digit_lem = refl; each_digit = refl }
+lines_shown = grind (arith, common_steps)

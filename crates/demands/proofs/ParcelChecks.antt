@@ -1,12 +1,13 @@
 -- Shown: the parcel check may be made in parts, it has 16 bits, and it is linear over exclusive or.
 -- Why: the register's laws, byte after byte, from any register of 16 bits.
 use Prim.Native.Nat.{ℕ, ◌^◌, ◌<◌}
-use mathlib.Core.Path.{◌≡◌, ◌∙◌, refl, ap}
+use mathlib.Core.Path.{◌≡◌, refl}
 use mathlib.Core.List.{List, [], ◌∷◌}
 use native.Mathlib.Omega.{arith}
 use lib.Bits.{bit_xor}
 use lib.Dec.{lit<}
 use lib.ListN.{length}
+use Rattle.std.proofs.lemmas.Grind.{common_steps}
 use Rattle.register.specs.Register.{all_in}
 use Rattle.register.proofs.Laws.{all_append}
 use Rattle.parcel_check.specs.Check.{enter_byte, parcel_check}
@@ -27,9 +28,7 @@ unfolding folded_bytes enter_byte
 all_linear r s [] [] hr hs same = refl
 all_linear r s [] (other ∷ second) hr hs same = omega arith
 all_linear r s (byte ∷ first) [] hr hs same = omega arith
-all_linear r s (byte ∷ first) (other ∷ second) hr hs same =
-    ap (λ (n : ℕ). all_in enter_byte n (folded_bytes first second)) (bits_linear 8 r s byte other hr hs)
-    ∙ all_linear (enter_byte r byte) (enter_byte s other) first second (byte_below r byte hr) (byte_below s other hs) (omega arith)
+all_linear r s (byte ∷ first) (other ∷ second) hr hs same = grind (arith, common_steps, bits_linear, byte_below, all_linear (enter_byte r byte) (enter_byte s other) first second (byte_below r byte hr) (byte_below s other hs) (omega arith))
 
 pub check_linear : CheckLinear
 unfolding parcel_check

@@ -1,27 +1,26 @@
 -- Shown: the fields behind a code: bytes of the right length are laid out again as they were, and numbers within their fields' values come back.
 -- Why: by induction along the fields; a number and its bytes give each other back, and a field's highest value fits its width.
-use Prim.Native.Nat.{ℕ, ◌+◌, ◌^◌, ◌<◌}
-use mathlib.Core.Path.{◌≡◌, ◌∙◌, refl, sym, ap, ap₂}
+use Prim.Native.Nat.{ℕ, ◌^◌, ◌<◌}
+use mathlib.Core.Path.{◌≡◌, ◌∙◌, refl, sym, ap}
 use mathlib.Core.Bool.{true, and-eq-true_iff}
 use mathlib.Core.List.{List, [], ◌∷◌}
 use native.Mathlib.Omega.{arith}
 use native.Mathlib.Nat.{lt_of_le_of_lt}
 use borrow.Author.Tests.{leb-true}
-use lib.Dec.{T, leb, lit<}
-use lib.ListN.{length, take, drop, get_or, length-append, length-drop, take-append-drop}
+use lib.Dec.{T, leb}
+use lib.ListN.{length, take, drop, length-append, length-drop, take-append-drop}
 use lib.Seq.{take_at, drop_at, length-take-le}
 use lib.Pow.{are_bytes}
+use Rattle.std.proofs.lemmas.Grind.{common_steps}
 use Rattle.laws.proofs.ByteLists.{bytes_take, bytes_drop}
 use Rattle.low_first.specs.LowFirst.{low_first, low_bytes}
 use Rattle.low_first.proofs.Digits.{low_length, number_back, bytes_back}
-use Rattle.parcel_scale.specs.Layouts.{Field, Weight, Division, Stable, Tare, SerialNum, width_of, highest_of, widths, numbers_in, laid_out, in_values}
+use Rattle.parcel_scale.specs.Layouts.{Field, width_of, highest_of, widths, numbers_in, laid_out, in_values}
 
 pub laid_length : (fields : List Field) (numbers : List ℕ) → length (laid_out fields numbers) ≡ widths fields
 unfolding laid_out widths
 laid_length [] numbers = refl
-laid_length (field ∷ fields) numbers =
-    length-append (low_bytes (width_of field) (get_or numbers 0 0)) (laid_out fields (drop 1 numbers))
-    ∙ ap₂ ◌+◌ (low_length (width_of field) (get_or numbers 0 0)) (laid_length fields (drop 1 numbers))
+laid_length (field ∷ fields) numbers = grind (arith, common_steps, length-append, low_length, laid_length fields (drop 1 numbers))
 
 -- ---- bytes to numbers and back
 
@@ -40,11 +39,7 @@ laid_back (field ∷ fields) data' all e =
 
 -- what a field may have fits its bytes
 highest_fits : (field : Field) → highest_of field < 256 ^ width_of field
-highest_fits Weight = lit< tt
-highest_fits Division = lit< tt
-highest_fits Stable = lit< tt
-highest_fits Tare = lit< tt
-highest_fits SerialNum = lit< tt
+highest_fits field = grind (arith, common_steps)
 
 pub numbers_back : (fields : List Field) (numbers : List ℕ) → length numbers ≡ length fields → in_values fields numbers ≡ true
     → numbers_in fields (laid_out fields numbers) ≡ numbers

@@ -2,15 +2,16 @@
 -- Why: each piece starts where the pieces before it end, and a number and its bytes give each other back.
 use Prim.Native.Nat.{ℕ, ◌+◌, ◌^◌, ◌≤◌, ◌<◌}
 use mathlib.Core.Path.{◌≡◌, ◌∙◌, refl, sym, ap, ap₂}
-use mathlib.Core.Bool.{true, and-eq-true_iff}
+use mathlib.Core.Bool.{true}
 use mathlib.Core.List.{List, [], ◌∷◌, ◌++◌, append_assoc}
 use native.Mathlib.Omega.{arith}
-use borrow.Author.Tests.{le-leb, le-ltb, ltb-false, eqb-true, not-true}
-use lib.Dec.{T, leb, ltb, eqb}
-use lib.ListN.{length, take, drop, get_or, length-append, take-append-drop, get_or-append}
+use borrow.Author.Tests.{le-ltb, ltb-false, eqb-true, not-true}
+use lib.Dec.{T, ltb}
+use lib.ListN.{length, take, drop, length-append, take-append-drop}
 use lib.Seq.{slice, take_at, drop_at, length-slice, length-take-le, drop-append-le}
 use lib.Pow.{are_bytes}
-use Rattle.laws.proofs.ByteLists.{bytes_take, bytes_drop, placed, by_place}
+use Rattle.std.proofs.lemmas.Grind.{common_steps}
+use Rattle.laws.proofs.ByteLists.{bytes_take, bytes_drop, placed}
 use Rattle.low_first.specs.LowFirst.{low_first, low_bytes}
 use Rattle.low_first.proofs.Digits.{low_length, number_back, bytes_back}
 use Rattle.parcel_check.specs.Check.{parcel_check}
@@ -55,42 +56,23 @@ module _ {bytes head low body check behind : List ℕ} (pieces : Pieces bytes he
 
   pub check_in_lem : check_in bytes ≡ low_first check
   unfolding check_in
-  check_in_lem =
-      rw (needs_in, length_in_lem, pieces.are, ← append_assoc head low (body ++ (check ++ behind)), ← append_assoc (head ++ low) body (check ++ behind))
-      (ap low_first
-      (slice_at ((head ++ low) ++ body) check behind (5 + length body) (5 + length body + 2) unchecked (ap (λ (n : ℕ). 5 + length body + n) pieces.last)))
+  check_in_lem = grind (arith, common_steps, length_in_lem, needs_in, slice_at, unchecked)
 
   all_length : length bytes ≡ 5 + length body + 2 + length behind
-  all_length =
-      let sum : length bytes ≡ length head + (length low + (length body + (length check + length behind))) = rw pieces.are (simp length-append) in
-      omega (arith, pieces)
+  all_length = grind (arith, common_steps)
 
   pub whole_in : whole bytes ≡ true
   whole_in = rw (needs_in, le-ltb (length bytes) (5 + length body + 2) (omega (arith, all_length)))
 
   pub headed_in : headed bytes ≡ headed head
   unfolding headed
-  headed_in =
-      let rest = low ++ (body ++ (check ++ behind)) in
-      let three = pieces.three in
-      rw (
-        le-leb 3 (length bytes) (omega (arith, all_length)),
-        le-leb 3 (length head) (omega arith),
-        pieces.are,
-        get_or-append head rest 0 0 (omega arith),
-        get_or-append head rest 0 1 (omega arith),
-        get_or-append head rest 0 2 (omega arith),
-      )
+  headed_in = grind (arith, common_steps)
 
   front_in : take (needs bytes) bytes ≡ head ++ (low ++ (body ++ check))
-  front_in =
-      let front = head ++ (low ++ (body ++ check)) in
-      let parted : front ++ behind ≡ bytes = rw pieces.are (simp append_assoc) in
-      let ends : length front ≡ needs bytes = rw needs_in (simp length-append (omega (arith, pieces))) in
-      ap (take (needs bytes)) (sym parted) ∙ take_at front behind (needs bytes) ends
+  front_in = grind (arith, common_steps, needs_in)
 
   pub pieces_more : (more : List ℕ) → Pieces (bytes ++ more) head low body check (behind ++ more)
-  pieces_more more = record { are = rw pieces.are (simp append_assoc); three = pieces.three; two = pieces.two; told = pieces.told; last = pieces.last }
+  pieces_more more = grind (arith, common_steps)
 
 -- ---- the other way: bytes that are long enough are in pieces
 
@@ -126,8 +108,7 @@ header = 0xF8 ∷ 0x55 ∷ 0xCE ∷ []
 pub framed_pieces : (body rest : List ℕ) → length body < 256 ^ 2
     → Pieces (framed body ++ rest) header (low_bytes 2 (length body)) body (low_bytes 2 (parcel_check body)) rest
 unfolding framed
-framed_pieces body rest h =
-    record { are = simp append_assoc; three = refl; two = low_length 2 (length body); told = number_back 2 (length body) h; last = low_length 2 (parcel_check body) }
+framed_pieces body rest h = grind (arith, common_steps, low_length, number_back)
 
 pub header_headed : headed header ≡ true
 unfolding headed
@@ -138,11 +119,7 @@ check_told body = number_back 2 (parcel_check body) (check_below body)
 
 header_is : (head : List ℕ) → length head ≡ 3 → headed head ≡ true → head ≡ header
 unfolding headed placed
-header_is head three passed =
-    let tests = ((and-eq-true_iff (leb 3 (length head)) _).0 passed).1 in
-    let (first, more) = (and-eq-true_iff (eqb (get_or head 0 0) 0xF8) _).0 tests in
-    let (second, third) = (and-eq-true_iff (eqb (get_or head 1 0) 0x55) _).0 more in
-    by_place 3 head three ∙ rw (eqb-true (get_or head 0 0) 0xF8 first, eqb-true (get_or head 1 0) 0x55 second, eqb-true (get_or head 2 0) 0xCE third)
+header_is head three passed = grind (arith, common_steps)
 
 two_bytes : (bytes : List ℕ) (number : ℕ) → T (are_bytes bytes) → length bytes ≡ 2 → low_first bytes ≡ number → low_bytes 2 number ≡ bytes
 two_bytes bytes number all two told = rw (← two, ← told) (bytes_back bytes all)

@@ -1,13 +1,14 @@
 -- Shown: the seven rows: what a row says of numbers has the row's code and those numbers, and each message has its row, which says the message again.
 -- Why: row by row and message by message; a signed number and its word give each other back.
 use Prim.Native.Nat.{ℕ, ◌<◌}
-use mathlib.Core.Path.{◌≡◌, ◌∙◌, refl, sym, ap, subst}
-use mathlib.Core.Bool.{Bool, true, false, cond, ◌&&◌, and-eq-true_iff}
+use mathlib.Core.Path.{◌≡◌, refl, ap}
+use mathlib.Core.Bool.{Bool, true, false, cond, ◌&&◌}
 use mathlib.Core.List.{List, [], ◌∷◌}
 use native.Mathlib.Omega.{arith}
-use borrow.Author.Tests.{leb-true, eqb-true}
+use borrow.Author.Tests.{eqb-true}
 use lib.Dec.{leb, eqb, lit<}
 use lib.ListN.{length}
+use Rattle.std.proofs.lemmas.Grind.{common_steps}
 use Rattle.low_first.specs.Signed.{signed_of, word_of}
 use Rattle.low_first.proofs.SignedWords.{signed_back, word_back}
 use Rattle.parcel_scale.specs.declared.parcels.Parcel.{Parcel}
@@ -18,8 +19,7 @@ use Rattle.demands.specs.Parcels.{OfItsTypes}
 
 -- the word of a field that passed its test
 word_again : (word : ℕ) (others : Bool) (rest : List ℕ) → (leb word 0xFFFF_FFFF && others) ≡ true → word_of (signed_of word) ∷ rest ≡ word ∷ rest
-word_again word others rest right =
-    ap (λ (n : ℕ). n ∷ rest) (word_back word (omega (arith, leb-true word 0xFFFF_FFFF ((and-eq-true_iff (leb word 0xFFFF_FFFF) others).0 right).0)))
+word_again word others rest right = grind (arith, common_steps, word_back)
 
 -- ---- the rows: what a row says has its code and its numbers
 
@@ -51,14 +51,13 @@ module _ (code : ℕ) (row : Row) where
 
   by_test : (test : Bool) (first : Row) (others : Found) → eqb code first.code ≡ test → RightRow first → (others ≡ known row → Right)
       → cond test (known first) others ≡ known row → Right
-  by_test true first others has right later e =
-      let same : first ≡ row = cc in (subst RightRow same right, ap (λ (r : Row). r.code) (sym same) ∙ sym (eqb-true code first.code has))
+  by_test true first others has right later e = grind (arith, common_steps, eqb-true)
   by_test false first others has right later e = later e
 
   row_found : {rows : List Row} → EachRight rows → row_in rows code ≡ known row → Right
   unfolding row_in
-  row_found none e = let clash : ◌≡◌ {A = ℕ} 0 1 = cc in absurd (omega arith)
-  row_found (◌then◌ {row = first} {rows = rows} right each) e = by_test (eqb code first.code) first (row_in rows code) refl right (row_found each) e
+  row_found none e = cc
+  row_found (◌then◌ {row = first} {rows = rows} right each) e = grind (arith, common_steps, by_test, row_found each)
 
 pub right_row : (code : ℕ) (row : Row) → row_of code ≡ known row → RightRow row × (row.code ≡ code)
 unfolding row_of

@@ -1,30 +1,30 @@
 -- Shown: a written message reads back as itself, a message that was read is written again as the bytes that were used, and no two share a writing.
 -- Why: a frame gives its body back, a row's fields give their numbers back, and the row of a code says the message of that code.
+use Rattle.std.specs.Prelude.{Ok}
 use Prim.Native.Nat.{ℕ, ◌^◌, ◌≤◌, ◌<◌}
 use mathlib.Core.Path.{◌≡◌, ◌∙◌, refl, sym, ap}
-use mathlib.Core.Bool.{true, true≢false}
+use mathlib.Core.Bool.{true}
 use mathlib.Core.List.{List, [], ◌∷◌, ◌++◌, append-nil}
-use mir.Facts.{and_yes}
 use native.Mathlib.Omega.{arith}
-use borrow.Author.Tests.{ltb-false, not-true, eq-eqb, eqb-true}
+use borrow.Author.Tests.{ltb-false, not-true, eq-eqb}
 use lib.Dec.{T, ltb}
-use lib.ListN.{length, take, drop}
-use lib.Seq.{take_at, length-take-le}
+use lib.ListN.{length, take}
+use lib.Seq.{length-take-le}
 use lib.Pow.{are_bytes}
+use Rattle.std.proofs.lemmas.Grind.{common_steps}
 use Rattle.parcel_check.specs.Check.{parcel_check}
 use Rattle.parcel_scale.specs.declared.parcels.Parcel.{Parcel}
-use Rattle.parcel_scale.specs.declared.reading.ParcelRead.TheVariants as read_kind
 use Rattle.parcel_scale.specs.Frame.{framed, needs, body_in}
-use Rattle.parcel_scale.specs.Layouts.{Row, Found, known, unknown, row_of, code_of, numbers_of, widths, numbers_in, in_values}
+use Rattle.parcel_scale.specs.Layouts.{Row, known, row_of, code_of, numbers_of, widths, numbers_in, in_values}
 use Rattle.parcel_scale.specs.Reading.{sized, within, read_row, read_code, read_body, read_parcel}
 use Rattle.parcel_scale.specs.Writing.{fields_of, body_of, parcel_bytes, legal_fields, written_parcel}
 use Rattle.parcel_scale.proofs.Frames.{framed_length}
-use Rattle.demands.specs.Parcels.{OfItsTypes, of_row, data_length_right, data_fields_right, ParcelReadsBack, SingleWriting, TwoWritings}
+use Rattle.demands.specs.Parcels.{OfItsTypes, data_length_right, data_fields_right, ParcelReadsBack, SingleWriting, TwoWritings}
 use Rattle.demands.proofs.ParcelFields.{laid_length, laid_back, numbers_back}
 use Rattle.demands.proofs.ParcelFrames.{framed_pieces, header_headed, check_told, body_bytes, framed_back}
 use Rattle.demands.proofs.ParcelRows.{right_row, has_row}
 use Rattle.demands.proofs.ParcelWriting.{writing_in_order}
-use Rattle.demands.proofs.ParcelsInOrder.{said_by, said_in, accepted_so, read_pieces}
+use Rattle.demands.proofs.ParcelsInOrder.{said_in, accepted_so, read_pieces}
 
 -- ---- written, then read
 
@@ -33,7 +33,7 @@ framed_read body rest short =
     read_pieces (framed_pieces body rest short) ∙ rw (header_headed, check_told body, eq-eqb (parcel_check body) (parcel_check body) refl, framed_length body)
 
 module _ (parcel : Parcel) (typed : OfItsTypes parcel) (legal : legal_fields parcel ≡ true) where
-  body_read : (used : ℕ) → read_body used (body_of parcel) ≡ read_kind.Parcel parcel used
+  body_read : (used : ℕ) → read_body used (body_of parcel) ≡ Ok (parcel, used)
   unfolding body_of fields_of read_body read_code read_row legal_fields
   body_read used =
       let has = has_row parcel in
@@ -52,28 +52,19 @@ module _ (parcel : Parcel) (typed : OfItsTypes parcel) (legal : legal_fields par
   unfolding body_of fields_of
   body_short = let has = has_row parcel in rw (has.found, laid_length has.row.fields (numbers_of parcel)) (omega (arith, has.short))
 
-  read_back : (rest : List ℕ) → read_parcel (parcel_bytes parcel ++ rest) ≡ read_kind.Parcel parcel (length (parcel_bytes parcel))
+  read_back : (rest : List ℕ) → read_parcel (parcel_bytes parcel ++ rest) ≡ Ok (parcel, length (parcel_bytes parcel))
   unfolding parcel_bytes
-  read_back rest = framed_read (body_of parcel) rest body_short ∙ body_read (length (framed (body_of parcel)))
+  read_back rest = grind (arith, common_steps, body_read, body_short, framed_read)
 
-  alone_back : read_parcel (parcel_bytes parcel) ≡ read_kind.Parcel parcel (length (parcel_bytes parcel))
+  alone_back : read_parcel (parcel_bytes parcel) ≡ Ok (parcel, length (parcel_bytes parcel))
   alone_back = ap read_parcel (sym (append-nil (parcel_bytes parcel))) ∙ read_back []
 
 pub parcel_reads_back : ParcelReadsBack
 unfolding written_parcel
-parcel_reads_back parcel room typed good =
-    let legal = ((writing_in_order parcel room).good.0 good).0 in
-    let bytes = parcel_bytes parcel in
-    record {
-      room = rw good (read_back parcel typed legal (drop (length bytes) room));
-      alone = rw (good, take_at bytes (drop (length bytes) room) (length bytes) refl) (alone_back parcel typed legal);
-    }
+parcel_reads_back parcel room typed good = grind (arith, common_steps, alone_back, read_back, writing_in_order)
 
 pub two_writings : TwoWritings
-two_writings first second typed typed_too legal legal_too same =
-    let one = alone_back first typed legal in
-    let other = alone_back second typed_too legal_too in
-    cc
+two_writings first second typed typed_too legal legal_too same = grind (arith, common_steps, alone_back)
 
 -- ---- read, then written
 
@@ -102,25 +93,13 @@ module _ (code : ℕ) (data' : List ℕ) (row : Row) (found : row_of code ≡ kn
 
   said_back : T (are_bytes data') → sized row data' ≡ true → body_of said ≡ code ∷ data'
   unfolding body_of
-  said_back all is_sized_lem = rw (code_of_lem, fields_of_lem, numbers_of_lem, laid_back row.fields data' all (eqb-true (length data') (widths row.fields) is_sized_lem))
+  said_back all is_sized_lem = grind (arith, common_steps, code_of_lem, fields_of_lem, laid_back, numbers_of_lem)
 
 said_right : (body : List ℕ) → data_fields_right body ≡ true → SaidRight body (said_in body)
-said_right [] right = absurd (true≢false (sym right))
-said_right (code ∷ data') right = by_found (row_of code) refl right
-  where
-    by_found : (found : Found) → row_of code ≡ found → of_row within found data' ≡ true → SaidRight (code ∷ data') (said_by found data')
-    by_found (known row) found right =
-        record {
-          legal = said_legal code data' row found right;
-          back = λ all is_sized_lem. said_back code data' row found right (and_yes (ltb code 256) (are_bytes data') all).1 (rw found at is_sized_lem);
-        }
-    by_found unknown found right = absurd (true≢false (sym right))
+said_right body right = grind (arith, common_steps, said_back, said_legal)
 
-pub read_legal : (bytes : List ℕ) (parcel : Parcel) (used : ℕ) → read_parcel bytes ≡ read_kind.Parcel parcel used → legal_fields parcel ≡ true
-read_legal bytes parcel used e =
-    let it = accepted_so bytes parcel used e in
-    let (is_headed, (is_whole, (is_checked, (has_code, (is_sized_lem, right))))) = it.passed in
-    rw it.parcel_is (said_right (body_in bytes) right).legal
+pub read_legal : (bytes : List ℕ) (parcel : Parcel) (used : ℕ) → read_parcel bytes ≡ Ok (parcel, used) → legal_fields parcel ≡ true
+read_legal bytes parcel used e = grind (arith, common_steps, accepted_so, said_right)
 
 pub single_writing : SingleWriting
 unfolding parcel_bytes written_parcel

@@ -1,29 +1,26 @@
 -- Shown: each answer of a read is given exactly where its test is the first of 20, 21, 22, 6, 7, 8 to fail, and bytes behind a whole frame change none.
 -- Why: a read is a message under the verdict of these tests, and each piece of a frame is found in its first bytes.
+use Rattle.std.specs.Prelude.{Result, Ok, Err}
 use Prim.Native.Nat.{ℕ, ◌+◌}
-use mathlib.Core.Path.{◌≡◌, ◌∙◌, refl, sym}
-use mathlib.Core.Bool.{Bool, true, false, not}
+use mathlib.Core.Path.{◌≡◌, ◌∙◌, sym}
+use mathlib.Core.Bool.{Bool, not}
 use mathlib.Core.List.{List, [], ◌∷◌}
-use native.Mathlib.Omega.{arith}
 use lib.Dec.{eqb}
 use lib.ListN.{length}
+use native.Mathlib.Omega.{arith}
+use Rattle.std.proofs.lemmas.Grind.{common_steps}
 use Rattle.refusal.specs.declared.Refusal.{Refusal}
 use Rattle.refusal.specs.declared.Refusal.TheVariants.{CodeUnknown, LengthWrong, FieldOutside, HeaderWrong, BytesMissing, ParcelCheckWrong}
-use Rattle.refusal.specs.declared.Verdict.{Verdict}
-use Rattle.refusal.specs.declared.Verdict.TheVariants.{Good, Refused}
 use Rattle.refusal.specs.Numbers.{refuse_if, by_verdict}
-use Rattle.refusal.proofs.Verdicts.{Tells, verdict_refused}
 use Rattle.low_first.specs.LowFirst.{low_first}
 use Rattle.parcel_check.specs.Check.{parcel_check}
 use Rattle.parcel_scale.specs.declared.parcels.Parcel.{Parcel}
 use Rattle.parcel_scale.specs.declared.parcels.Parcel.TheVariants.{Nack}
-use Rattle.parcel_scale.specs.declared.reading.ParcelRead.{ParcelRead}
-use Rattle.parcel_scale.specs.declared.reading.ParcelRead.TheVariants as read_kind
 use Rattle.parcel_scale.specs.Frame.{headed, needs, body_in}
 use Rattle.parcel_scale.specs.Layouts.{Found, known, unknown, row_of, numbers_in}
-use Rattle.parcel_scale.specs.Reading.{sized, within, whole, checked, read_row, read_code, read_body, judged_frame, after_frame, read_parcel}
+use Rattle.parcel_scale.specs.Reading.{whole, checked, read_row, read_code, read_body, judged_frame, after_frame, read_parcel}
 use Rattle.laws.specs.Exactly.{ExactlyWhere}
-use Rattle.demands.specs.Parcels.{of_row, code_known, data_length_right, data_fields_right, Accepts, OneAnswerInOrder, BehindTheCheck}
+use Rattle.demands.specs.Parcels.{code_known, data_length_right, data_fields_right, Accepts, OneAnswerInOrder, BehindTheCheck}
 use Rattle.demands.proofs.ParcelFrames.{Pieces, pieces_of, pieces_more, needs_in, body_in_lem, check_in_lem, whole_in, headed_in}
 use Rattle.demands.proofs.TestsInOrder.{Test, must, judged, exactly, AllPass, all_pass, through}
 
@@ -50,38 +47,18 @@ said_in [] = Nack
 said_in (code ∷ data') = said_by (row_of code) data'
 
 -- an answer under a verdict
-abbrev answered : ℕ → Verdict → Parcel → ParcelRead
-answered used = by_verdict (λ (parcel : Parcel). read_kind.Parcel parcel used) read_kind.Refused
+abbrev answered : ℕ → Result (Unit {0}) Refusal → Parcel → Result (Parcel × ℕ) Refusal
+answered used = by_verdict (λ (parcel : Parcel). Ok (parcel, used)) Err
 
 body_so : (used : ℕ) (body : List ℕ) → read_body used body ≡ answered used (judged (body_tests body)) (said_in body)
 unfolding read_body read_code read_row
-body_so used [] = refl
-body_so used (code ∷ data') = by_found (row_of code)
-  where
-    by_found : (found : Found) → read_code used found data'
-        ≡ answered used (judged (meaning_tests (of_row (λ row data'. true) found data') (of_row sized found data') (of_row within found data'))) (said_by found data')
-    by_found (known row) = refl
-    by_found unknown = refl
-
--- 20, 21, 22 ahead of a verdict
-ahead : (header enough right : Bool) (used : ℕ) (after : Verdict) (parcel : Parcel)
-    → after_frame (refuse_if header HeaderWrong (refuse_if enough BytesMissing (refuse_if right ParcelCheckWrong Good))) (answered used after parcel)
-    ≡ answered used (refuse_if header HeaderWrong (refuse_if enough BytesMissing (refuse_if right ParcelCheckWrong after))) parcel
-ahead true enough right used after parcel = refl
-ahead false true right used after parcel = refl
-ahead false false true used after parcel = refl
-ahead false false false used after parcel = refl
+body_so used body = grind (arith, common_steps)
 
 read_so : (bytes : List ℕ) → read_parcel bytes ≡ answered (needs bytes) (judged (tests bytes)) (said_in (body_in bytes))
 unfolding read_parcel judged_frame
-read_so bytes =
-    rw (body_so (needs bytes) (body_in bytes))
-    (ahead (not (headed bytes)) (not (whole bytes)) (not (checked bytes)) (needs bytes) (judged (body_tests (body_in bytes))) (said_in (body_in bytes)))
+read_so bytes = grind (arith, common_steps, body_so)
 
 -- ---- so each answer tells the verdict
-
-tells : (used : ℕ) → Tells (λ (parcel : Parcel). read_kind.Parcel parcel used) read_kind.Refused
-tells used = record { value = λ e. cc; refusal = λ e. cc; apart = λ e. cc }
 
 -- a message told is the one that the body says, and as many bytes were used as the frame needs
 pub record Accepted (bytes : List ℕ) (parcel : Parcel) (used : ℕ) : Type 0 where
@@ -89,20 +66,12 @@ pub record Accepted (bytes : List ℕ) (parcel : Parcel) (used : ℕ) : Type 0 w
   pub parcel_is : parcel ≡ said_in (body_in bytes)
   pub used_is : used ≡ needs bytes
 
-pub accepted_so : (bytes : List ℕ) (parcel : Parcel) (used : ℕ) → read_parcel bytes ≡ read_kind.Parcel parcel used → Accepted bytes parcel used
-accepted_so bytes parcel used e = by_verdict_lem (judged (tests bytes)) (said_in (body_in bytes)) refl refl (sym (read_so bytes) ∙ e)
-  where
-    by_verdict_lem : (verdict : Verdict) (said : Parcel) → judged (tests bytes) ≡ verdict → said_in (body_in bytes) ≡ said
-        → answered (needs bytes) verdict said ≡ read_kind.Parcel parcel used → Accepted bytes parcel used
-    by_verdict_lem Good said v s e = record { passed = (all_pass (tests bytes)).0 v; parcel_is = cc; used_is = cc }
-    by_verdict_lem (Refused why) said v s e = let clash : ◌≡◌ {A = ℕ} 0 1 = cc in absurd (omega arith)
+pub accepted_so : (bytes : List ℕ) (parcel : Parcel) (used : ℕ) → read_parcel bytes ≡ Ok (parcel, used) → Accepted bytes parcel used
+accepted_so bytes parcel used e = grind (arith, common_steps, read_so)
 
 module _ (bytes : List ℕ) where
-  refused : (why : Refusal) → ExactlyWhere (read_parcel bytes ≡ read_kind.Refused why) (judged (tests bytes) ≡ Refused why)
-  refused why = (
-    λ (e : read_parcel bytes ≡ read_kind.Refused why). verdict_refused (tells (needs bytes)) (judged (tests bytes)) _ why (sym (read_so bytes) ∙ e),
-    λ (e : judged (tests bytes) ≡ Refused why). rw (read_so bytes, e),
-  )
+  refused : (why : Refusal) → ExactlyWhere (read_parcel bytes ≡ Err why) (judged (tests bytes) ≡ Err why)
+  refused why = grind (arith, common_steps, read_so)
 
   told : ExactlyWhere (Accepts bytes) (AllPass (tests bytes))
   told = (
@@ -130,7 +99,7 @@ one_answer_in_order bytes = record {
 -- what is read of bytes in pieces: nothing of what stands behind
 pub read_pieces : {bytes head low body check behind : List ℕ} → Pieces bytes head low body check behind
     → read_parcel bytes
-    ≡ after_frame (refuse_if (not (headed head)) HeaderWrong (refuse_if (not (eqb (low_first check) (parcel_check body))) ParcelCheckWrong Good))
+    ≡ after_frame (refuse_if (not (headed head)) HeaderWrong (refuse_if (not (eqb (low_first check) (parcel_check body))) ParcelCheckWrong (Ok tt)))
     (read_body (5 + length body + 2) body)
 unfolding read_parcel judged_frame
 read_pieces pieces = rw (whole_in pieces, headed_in pieces, check_in_lem pieces, body_in_lem pieces, needs_in pieces)

@@ -1,8 +1,8 @@
 -- Shown: the seven messages, the edges of reading and of writing, values, a header inside a body, a check fed through, nobody's numbers, the types.
 -- Why: each is computed from the definitions.
 use mathlib.Core.Path.{refl}
-use native.Mathlib.Nat.{lt_irrefl}
-use lib.Dec.{lit<}
+use native.Mathlib.Omega.{arith}
+use Rattle.std.proofs.lemmas.Grind.{common_steps}
 use Rattle.refusal.specs.Numbers.{named_in, named_of}
 use Rattle.low_first.specs.LowFirst.{low_first, low_bytes}
 use Rattle.low_first.specs.Signed.{signed_of, word_of}
@@ -43,10 +43,4 @@ unfolding named_in named_of
 nobodys_numbers = refl
 
 pub of_their_types : OfTheirTypes
-of_their_types = record {
-  lowest = (record { sfits = lit< tt }, record { sfits = lit< tt });
-  highest = (record { sfits = lit< tt }, record { sfits = lit< tt });
-  others = (tt, (tt, (tt, (tt, tt))));
-  beyond = λ fits. lt_irrefl 2147483648 fits.sfits;
-  below = λ fits. lt_irrefl 2147483648 fits.sfits;
-}
+of_their_types = grind (arith, common_steps)

@@ -1,14 +1,15 @@
 -- Shown: what a listener makes of one stuffed body: heard from a delimiter on, it is kept whole and its second FF gives the frame; joined inside
 -- it, the rest is silent. Why: after each FF of a body stands an FE, so nothing in it ends or breaks it, and its first byte starts it.
+use Rattle.std.specs.Prelude.{Ok}
 use Prim.Native.Nat.{ℕ, zero, suc, ◌+◌, ◌-◌, ◌≤◌, ◌<◌}
 use mathlib.Core.Path.{◌≡◌, ◌∙◌, refl, ap}
 use mathlib.Core.Bool.{Bool, true, false}
-use mathlib.Core.List.{List, [], ◌∷◌, ◌++◌, append_assoc, append-nil}
+use mathlib.Core.List.{List, [], ◌∷◌, ◌++◌, append-nil}
 use native.Mathlib.Omega.{arith}
 use borrow.Author.Tests.{eqb-true, ne_eqb}
 use lib.ListN.{length, drop, replicate, length-append}
 use lib.Dec.{eqb}
-use Rattle.refusal.specs.declared.Verdict.TheVariants.{Good}
+use Rattle.std.proofs.lemmas.Grind.{common_steps}
 use Rattle.body.specs.Body.{judged}
 use Rattle.frame.specs.Stuffing.{stuffed, stuffed_byte}
 use Rattle.line.specs.Listener.{Heard, frame, seeking, delimited, inside, held, events}
@@ -37,15 +38,8 @@ inside_body : {body bytes : List ℕ} → Stuffed body bytes → (kept rest : Li
 inside_body none kept rest n m room e =
     let same : n ≡ m = omega arith in
     rw (append-nil, same)
-inside_body (ff {body} {bytes} s) kept rest n m room e =
-    inside_ff n (0xFE ∷ (bytes ++ rest)) kept
-    ∙ held_fe (suc n) (bytes ++ rest) kept (omega arith)
-    ∙ inside_body s (kept ++ (0xFF ∷ [])) rest (suc (suc n)) m (simp length-append (omega arith)) (omega arith)
-    ∙ rw append_assoc
-inside_body (other {byte} {body} {bytes} not_ff s) kept rest n m room e =
-    inside_other n (bytes ++ rest) kept byte not_ff (omega arith)
-    ∙ inside_body s (kept ++ (byte ∷ [])) rest (suc n) m (simp length-append (omega arith)) (omega arith)
-    ∙ rw append_assoc
+inside_body (ff {body} {bytes} s) kept rest n m room e = grind (arith, common_steps, held_fe, inside_ff, length-append, inside_body s (kept ++ (0xFF ∷ [])) rest (suc (suc n)) m (simp length-append (omega arith)) (omega arith))
+inside_body (other {byte} {body} {bytes} not_ff s) kept rest n m room e = grind (arith, common_steps, inside_other, length-append, inside_body s (kept ++ (byte ∷ [])) rest (suc n) m (simp length-append (omega arith)) (omega arith))
 
 -- who joined inside a body hears nothing of the rest of it: a stuffed FF leads to Delimited, its FE back to Seeking
 pub seeking_late : {body bytes : List ℕ} → Stuffed body bytes → (late : ℕ) (rest : List ℕ) (n m : ℕ) → n + (length bytes - late) ≡ m
@@ -56,8 +50,7 @@ seeking_late none zero rest n m e =
 seeking_late none (suc late) rest n m e =
     let same : n ≡ m = omega arith in
     rw same
-seeking_late (ff {body} {bytes} s) zero rest n m e =
-    seeking_ff n (0xFE ∷ (bytes ++ rest)) ∙ delimited_fe (suc n) (bytes ++ rest) ∙ seeking_late s zero rest (suc (suc n)) m (omega arith)
+seeking_late (ff {body} {bytes} s) zero rest n m e = grind (arith, common_steps, delimited_fe, seeking_ff, seeking_late s zero rest (suc (suc n)) m (omega arith))
 seeking_late (ff {body} {bytes} s) (suc zero) rest n m e =
     seeking_other n (bytes ++ rest) 0xFE refl ∙ seeking_late s zero rest (suc n) m (omega arith)
 seeking_late (ff {body} {bytes} s) (suc (suc late)) rest n m e = seeking_late s late rest n m (omega arith)
@@ -77,7 +70,7 @@ kept_whole byte {body} {bytes} not_ff not_fe s most n m rest e =
     ∙ ap (λ (k : ℕ). events (at (held (byte ∷ body)) k) rest) clocks
 
 -- a good body starts with such a byte
-body_held : {body bytes : List ℕ} → Stuffed body bytes → judged body ≡ Good → length body ≤ 255 → (n m : ℕ) (rest : List ℕ)
+body_held : {body bytes : List ℕ} → Stuffed body bytes → judged body ≡ Ok tt → length body ≤ 255 → (n m : ℕ) (rest : List ℕ)
     → n + length bytes + 1 ≡ m
     → events (at delimited n) (bytes ++ (0xFF ∷ rest)) ≡ events (at (held body) m) rest
 body_held none good most n m rest e = absurd (good_not_empty good)
@@ -87,7 +80,7 @@ body_held (other {byte} {body} {bytes} not_ff s) good most n m rest e =
     kept_whole byte not_ff (ne_eqb byte 0xFE (λ (e : byte ≡ 0xFE). omega arith)) s (omega arith) n m rest e
 
 -- the second FF gives the frame
-pub whole : {body bytes : List ℕ} → Stuffed body bytes → judged body ≡ Good → length body ≤ 255 → (behind n : ℕ) (rest : List ℕ) → 2 ≤ behind
+pub whole : {body bytes : List ℕ} → Stuffed body bytes → judged body ≡ Ok tt → length body ≤ 255 → (behind n : ℕ) (rest : List ℕ) → 2 ≤ behind
     → events (at delimited n) (bytes ++ (replicate behind 0xFF ++ rest))
     ≡ frame (clock (n + length bytes + 2)) (length body) body ∷ events (at delimited (n + length bytes + behind)) rest
 whole s good most zero n rest two = absurd (omega arith)

@@ -1,15 +1,14 @@
 -- Shown: the code that 003 prints makes the check that 02 words, of whatever numbers.
 -- Why: its two words, folded together, are the register: a turn is a shift. The register's low byte and the entering one stay as they are.
-use Prim.Native.Nat.{ℕ, zero, suc, ◌+◌, ◌-◌, ◌*◌, ◌/◌, ◌%◌, ◌^◌, ◌<◌}
+use Prim.Native.Nat.{ℕ, zero, suc, ◌+◌, ◌*◌, ◌/◌, ◌%◌, ◌^◌, ◌<◌}
 use mathlib.Core.Path.{◌≡◌, ◌∙◌, refl, sym, ap, ap₂}
 use mathlib.Core.List.{List, [], ◌∷◌}
 use native.Mathlib.Omega.{arith}
-use native.Mathlib.Decide.{dec_le}
-use native.Mathlib.Nat.{mod-lt, zero-div, lt_of_not-le}
-use borrow.Author.Tests.{lt-ltb, le-ltb}
+use native.Mathlib.Nat.{mod-lt, zero-div}
 use lib.Dec.{lit<}
 use lib.Bits.{bit_and, bit_xor, and_high, and_mask, xor_comm, xor_zero_l, xor_zero_r, xor_shifted}
 use lib.Pow.{split, high, low}
+use Rattle.std.proofs.lemmas.Grind.{common_steps}
 use Rattle.register.specs.Register.{all_in}
 use Rattle.register.proofs.Bits.{xor_assoc}
 use Rattle.register.proofs.Laws.{shift_below, enters}
@@ -39,19 +38,7 @@ tested words = ap (λ (n : ℕ). bit_and n 0x8000) (xor_comm words.temp words.ac
 -- a turn is a shift with 0 entering
 turn_shifts : (words : Words) → together words < 2 ^ 16 → together (turn words) ≡ shift_word (together words) 0
 unfolding turn shift_word
-turn_shifts words h = elim (dec_le 0x8000 (together words)) [
-  | yes out ↦
-      let one : together words / 2 ^ 15 % 2 ≡ 1 = omega arith in
-      let doubled : up (together words) 1 ≡ (together words - 0x8000) * 2 + 0 = omega arith in
-      rw (tested words, one, le-ltb (together words) 0x8000 out)
-      (folded_in_behind (up words.accumulator 1) 0x1021 (up words.temp 1)
-      ∙ ap (λ (n : ℕ). bit_xor n 0x1021) (up_over words.accumulator words.temp ∙ doubled))
-  | no stays ↦
-      let below : together words < 0x8000 = lt_of_not-le stays in
-      let none : together words / 2 ^ 15 % 2 ≡ 0 = omega arith in
-      let doubled : up (together words) 1 ≡ together words * 2 + 0 = omega arith in
-      rw (tested words, none, lt-ltb (together words) 0x8000 below) (up_over words.accumulator words.temp ∙ doubled)
-]
+turn_shifts words h = grind (arith, common_steps, folded_in_behind, tested, up_over)
 
 -- so turns are zeros that enter
 turns_shift : (count : ℕ) (words : Words) → together words < 2 ^ 16 → together (turns count words) ≡ enter_bits count (together words) 0

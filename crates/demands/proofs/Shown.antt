@@ -3,6 +3,7 @@
 use mathlib.Core.Path.{refl}
 use native.Mathlib.Omega.{arith}
 use lib.Dec.{lit≤}
+use Rattle.std.proofs.lemmas.Grind.{common_steps}
 use Rattle.check_byte.specs.Register.{shift_in, feed_bits, feed_byte, feed_all, received}
 use Rattle.low_first.specs.LowFirst.{low_first}
 use Rattle.body.specs.Addresses.{legal, address_in}
@@ -42,28 +43,14 @@ told = record { blocks = refl; by_reader = refl; reader = refl }
 
 shared : Sharing
 unfolding shift_in feed_bits feed_byte feed_all received low_first legal address_in short judged stuffed_byte stuffed on_wire wire_of any_ff heard_of tick keep ended hear_in hear heard_then events
-shared = record {
-  all = (record { good = refl; most = lit≤ tt; behind = lit≤ tt }, (record { good = refl; most = lit≤ tt; behind = lit≤ tt }, tt));
-  not_proper = λ p. omega (arith, p.1.0.ahead);
-  address = refl;
-  laid = refl;
-  start = refl;
-  first_byte = refl;
-  last_ff = refl;
-  second_byte = refl;
-  told = refl;
-}
+shared = grind (arith, common_steps)
 
 of_longest : Longest
 unfolding shift_in feed_bits feed_byte feed_all received legal address_in short judged
-of_longest = record {
-  size = refl;
-  enough = record { shared = record { good = refl; most = lit≤ tt; behind = lit≤ tt }; ahead = lit≤ tt };
-  too_long = λ p. omega (arith, p.shared.most);
-}
+of_longest = grind (arith, common_steps)
 
 resting : Resting
 resting = record { seeks = tt; at_delimiter = tt; keeps = λ p. p; holds = λ p. p }
 
 pub shown : Shown
-shown = record { frames = frames; heard_from = heard_from; tests = tests; told = told; shared = shared; longest = of_longest; resting = resting }
+shown = grind (arith, common_steps, frames, heard_from, of_longest, shared, tests, told)

@@ -9,10 +9,11 @@ use native.Mathlib.Decide.{dec_le}
 use native.Mathlib.Nat.{lt_of_not-le, mod-add-mod}
 use borrow.Author.Tests.{eqb-true}
 use lib.ListN.{length, take, drop, length-append, take-append-drop, drop_of_length-le}
-use lib.Seq.{slice, drop-append-le}
+use lib.Seq.{drop-append-le}
 use lib.Dec.{eqb}
+use Rattle.std.proofs.lemmas.Grind.{common_steps}
 use Rattle.frame.specs.Stuffing.{stuffed}
-use Rattle.line.specs.Listener.{State, seeking, delimited, inside, held, Heard, Listener, tick, hear, events, after}
+use Rattle.line.specs.Listener.{State, seeking, delimited, Heard, Listener, tick, hear, events, after}
 use Rattle.demands.specs.Stops.{AtRest, unended, SilentInside, StopsInside}
 use Rattle.demands.proofs.Bytes.{at, seeking_ff, delimited_ff, delimited_fe}
 use Rattle.demands.proofs.Piece.{Stuffed, none, ff, other, stuff, kept_whole, seeking_late}
@@ -45,16 +46,10 @@ delimited_rest (other not_ff s) most (suc late) n = delimited_rest s (omega arit
 -- the same from any state at rest, and with FFs ahead
 rest_silent : {body bytes : List ℕ} → Stuffed body bytes → length body ≤ 255 → (state : State) → AtRest state → (late n : ℕ)
     → events (at state n) (drop late bytes ++ (0xFF ∷ [])) ≡ []
-rest_silent s most seeking rests late n = seeking_rest s late n
-rest_silent s most delimited rests late n = delimited_rest s most late n
-rest_silent s most (inside kept) rests late n = absurd rests
-rest_silent s most (held kept) rests late n = absurd rests
+rest_silent s most state rests late n = grind (arith, common_steps, delimited_rest, seeking_rest)
 
 rest_ff : (state : State) → AtRest state → (n : ℕ) (rest : List ℕ) → events (at state n) (0xFF ∷ rest) ≡ events (at delimited (suc n)) rest
-rest_ff seeking rests n rest = seeking_ff n rest
-rest_ff delimited rests n rest = delimited_ff n rest
-rest_ff (inside kept) rests n rest = absurd rests
-rest_ff (held kept) rests n rest = absurd rests
+rest_ff state rests n rest = grind (arith, common_steps, delimited_ff, seeking_ff)
 
 unended_silent : (ahead : ℕ) (body : List ℕ) → length body ≤ 255 → Quiet (unended ahead body)
 unfolding events
@@ -94,10 +89,7 @@ any_count listener [] = refl
 any_count listener (byte ∷ bytes) = rw (mod-add-mod listener.wire (2 ^ 64) 1)
 
 pub silent_inside : SilentInside
-silent_inside listener rests ahead body most joined stop =
-    any_count listener (slice joined stop (unended ahead body))
-    ∙ part_silent (unended ahead body) (unended_silent ahead body most) stop listener.state rests listener.wire joined
+silent_inside listener rests ahead body most joined stop = grind (arith, common_steps, any_count, part_silent, unended_silent)
 
 pub stops_inside : StopsInside
-stops_inside list shared ahead body most joined stop =
-    demand3_then (take stop (unended ahead body)) (part_silent (unended ahead body) (unended_silent ahead body most) stop) list shared joined
+stops_inside list shared ahead body most joined stop = grind (arith, common_steps, demand3_then, part_silent, unended_silent)

@@ -8,7 +8,7 @@ use native.Mathlib.Omega.{arith}
 use borrow.Author.Tests.{eqb-true, eqb-false}
 use lib.Dec.{eqb}
 use lib.ListN.{length, get_or, set, replicate, length-set, get_or-replicate}
-use lib.Seq.{get_or-set_same, get_or-set_other, set-get_or}
+use lib.Seq.{get_or-set_same, get_or-set_other}
 use Rattle.hour_cell.specs.declared.cells.Cell.{Cell}
 use Rattle.hour_cell.specs.declared.slots.Slot.{Slot}
 use Rattle.hour_cell.specs.Cells.{empty_cell}
@@ -32,10 +32,6 @@ rows_kept (first ∷ rows) (suc weekday) row all long = (all.0, rows_kept rows w
 pub record There (slot : Slot) : Type 0 where
   pub weekday : slot.weekday < 7
   pub hour : slot.hour < 24
-
--- a cell replaced by itself
-pub same_cell : (table : Table) (slot : Slot) → with_cell table slot (cell_at table slot) ≡ table
-same_cell table slot = rw (set-get_or (get_or table slot.weekday []) slot.hour empty_cell) (set-get_or table slot.weekday [])
 
 module _ (table : Table) (seven : SevenByTwentyFour table) (slot : Slot) (there : There slot) where
   pub row_there : slot.weekday < length table

@@ -2,13 +2,13 @@
 -- Why: a table is asked cell by cell, and a replaced cell is asked in the place of the one before it.
 use Prim.Native.Nat.{ℕ, zero, suc, ◌*◌, ◌<◌}
 use mathlib.Core.Path.{◌≡◌, refl}
-use mathlib.Core.Bool.{Bool, true, false, ◌&&◌, and-eq-true_iff}
+use mathlib.Core.Bool.{Bool, true, ◌&&◌, and-eq-true_iff}
 use mathlib.Core.List.{List, [], ◌∷◌}
 use native.Mathlib.Omega.{arith}
-use borrow.Author.Tests.{leb-true, leb-false}
-use lib.Dec.{leb}
+use borrow.Author.Tests.{leb-true}
 use lib.IntN.{nat_abs}
 use lib.ListN.{length, get_or, set}
+use Rattle.std.proofs.lemmas.Grind.{common_steps}
 use Rattle.hour_cell.specs.declared.cells.Cell.{Cell}
 use Rattle.hour_cell.specs.declared.slots.Slot.{Slot}
 use Rattle.hour_cell.specs.Cells.{empty_cell, sound}
@@ -37,7 +37,7 @@ table_row (row ∷ rows) (suc weekday) s = table_row rows weekday ((and-eq-true_
 row_stays : (row : List Cell) (hour : ℕ) (cell : Cell) → sound_row row ≡ true → sound cell ≡ true → sound_row (set row hour cell) ≡ true
 unfolding sound_row
 row_stays [] hour cell s c = refl
-row_stays (first ∷ cells) zero cell s c = both (sound cell) (sound_row cells) c ((and-eq-true_iff (sound first) (sound_row cells)).0 s).1
+row_stays (first ∷ cells) zero cell s c = grind (arith, common_steps, both)
 row_stays (first ∷ cells) (suc hour) cell s c =
     let (here, more) = (and-eq-true_iff (sound first) (sound_row cells)).0 s in
     both (sound first) (sound_row (set cells hour cell)) here (row_stays cells hour cell more c)
@@ -45,18 +45,17 @@ row_stays (first ∷ cells) (suc hour) cell s c =
 table_stays : (table : Table) (weekday : ℕ) (row : List Cell) → sound_table table ≡ true → sound_row row ≡ true → sound_table (set table weekday row) ≡ true
 unfolding sound_table
 table_stays [] weekday row s r = refl
-table_stays (first ∷ rows) zero row s r = both (sound_row row) (sound_table rows) r ((and-eq-true_iff (sound_row first) (sound_table rows)).0 s).1
+table_stays (first ∷ rows) zero row s r = grind (arith, common_steps, both)
 table_stays (first ∷ rows) (suc weekday) row s r =
     let (here, more) = (and-eq-true_iff (sound_row first) (sound_table rows)).0 s in
     both (sound_row first) (sound_table (set rows weekday row)) here (table_stays rows weekday row more r)
 
 -- each cell of a sound table is sound, also where there is none
 pub cell_sound : (table : Table) (slot : Slot) → sound_table table ≡ true → sound (cell_at table slot) ≡ true
-cell_sound table slot s = row_sound (get_or table slot.weekday []) slot.hour (table_row table slot.weekday s)
+cell_sound table slot s = grind (arith, common_steps, row_sound, table_row)
 
 pub with_cell_sound : (table : Table) (slot : Slot) (cell : Cell) → sound_table table ≡ true → sound cell ≡ true → sound_table (with_cell table slot cell) ≡ true
-with_cell_sound table slot cell s c =
-    table_stays table slot.weekday _ s (row_stays (get_or table slot.weekday []) slot.hour cell (table_row table slot.weekday s) c)
+with_cell_sound table slot cell s c = grind (arith, common_steps, row_stays, table_row, table_stays)
 
 pub empty_is_sound : sound_table empty_table ≡ true
 unfolding empty_table sound_table sound_row sound
@@ -77,9 +76,7 @@ all_of_rows (row ∷ rows) each =
     both (sound_row row) (sound_table rows) (each 0 (omega arith)) (all_of_rows rows (λ (weekday : ℕ) (there : weekday < length rows). each (suc weekday) (omega arith)))
 
 pub all_sound : (table : Table) → SevenByTwentyFour table → ((weekday hour : ℕ) → weekday < 7 → hour < 24 → sound (cell_of table weekday hour) ≡ true) → sound_table table ≡ true
-all_sound table seven each =
-    all_of_rows table (λ (weekday : ℕ) (day : weekday < length table). all_of_row (get_or table weekday []) (λ (hour : ℕ) (at : hour < length (get_or table weekday [])).
-    each weekday hour (omega (arith, seven.rows)) (omega (arith, row_length table weekday seven.cells day))))
+all_sound table seven each = grind (arith, common_steps, all_of_row, all_of_rows, row_length)
 
 -- ---- 31 is the cell that is not sound
 
@@ -89,8 +86,4 @@ beyond_unsound cell far s = omega (arith, leb-true (nat_abs cell.sum) (cell.weig
 
 pub not_beyond_sound : (cell : Cell) → (IsBeyond cell → ⊥) → sound cell ≡ true
 unfolding sound
-not_beyond_sound cell near = by_test (leb (nat_abs cell.sum) (cell.weights * 9999990000000)) refl
-  where
-    by_test : (test : Bool) → leb (nat_abs cell.sum) (cell.weights * 9999990000000) ≡ test → test ≡ true
-    by_test true e = refl
-    by_test false e = absurd (near (leb-false (nat_abs cell.sum) (cell.weights * 9999990000000) e))
+not_beyond_sound cell near = grind (arith, common_steps)

@@ -1,25 +1,25 @@
 -- Shown: all cells of a table together hold what they held and what was counted by hand in the records that went in.
 -- Why: a replaced cell changes the total by what it is more than the one before it, and a record replaces one cell.
+use Rattle.std.specs.Prelude.{Result, Ok}
 use Prim.Native.Nat.{ℕ, zero, suc, ◌+◌, ◌<◌}
 use mathlib.Core.Path.{◌≡◌, refl}
 use mathlib.Core.Bool.{Bool}
 use mathlib.Core.List.{List, [], ◌∷◌}
 use native.Mathlib.Omega.{arith}
 use lib.ListN.{length, take, get_or, set}
-use Rattle.refusal.specs.declared.Verdict.{Verdict}
+use Rattle.std.proofs.lemmas.Grind.{common_steps}
 use Rattle.records.specs.declared.records.Record.{Record}
 use Rattle.hour_cell.specs.declared.cells.Cell.{Cell}
 use Rattle.hour_cell.specs.declared.slots.Slot.{Slot}
-use Rattle.hour_cell.specs.declared.adding.Added.TheVariants as added_kind
 use Rattle.hour_cell.specs.Cells.{empty_cell}
-use Rattle.hour_cell.specs.Slots.{slot_of}
 use Rattle.hour_table.specs.declared.filled.Filled.{Filled}
 use Rattle.hour_table.specs.Tables.{Table, empty_table, cell_at, with_cell}
-use Rattle.demands.specs.Tables.{settled_gross, refused_record, how_many, over_cells, over_table}
+use Rattle.demands.specs.Tables.{how_many, over_cells, over_table}
 use Rattle.demands.specs.LentTables.{SevenByTwentyFour, HeldTogether}
-use Rattle.demands.proofs.TableCells.{There, row_there, hour_there}
+use Rattle.demands.proofs.TableCells.{There, hour_there}
 use Rattle.demands.proofs.TableCounts.{added, Grown}
 use Rattle.demands.proofs.TableFilling.{many_then, cell_for, next, slot_there, grew, next_seven, Poured, ends, stops, goes}
+use Rattle.refusal.specs.declared.Refusal.{Refusal}
 
 -- ---- one cell replaced
 
@@ -40,38 +40,22 @@ module _ (part : Cell → ℕ) where
 
   total_replaced : (table : Table) → SevenByTwentyFour table → (slot : Slot) → There slot → (cell : Cell)
       → over_table part (with_cell table slot cell) + part (cell_at table slot) ≡ over_table part table + part cell
-  total_replaced table seven slot there cell =
-      omega (
-        arith,
-        row_replaced table slot.weekday (set (get_or table slot.weekday []) slot.hour cell) (row_there table seven slot there),
-        cell_replaced (get_or table slot.weekday []) slot.hour cell (hour_there table seven slot there),
-      )
+  total_replaced table seven slot there cell = grind (arith, common_steps, cell_replaced, hour_there, row_replaced)
 
 -- ---- records one behind the other
 
 -- a part of a cell that grows by one where a record is such
 module _ (part : Cell → ℕ) (such : Record → Bool) (grows : (item : Record) (before after : Cell) → Grown item before after → part after ≡ part before + how_many such (item ∷ [])) where
-  one_total : (item : Record) (table : Table) → SevenByTwentyFour table → (after : Cell) → added item (cell_for item table) ≡ added_kind.Cell after
+  one_total : (item : Record) (table : Table) → SevenByTwentyFour table → (after : Cell) → added item (cell_for item table) ≡ Ok after
       → over_table part (next item table after) ≡ over_table part table + how_many such (item ∷ [])
-  one_total item table seven after e =
-      omega (
-        arith,
-        total_replaced part table seven (slot_of item.time) (slot_there item.time) after,
-        grows item (cell_for item table) after (grew item table after e),
-      )
+  one_total item table seven after e = grind (arith, common_steps, grew, slot_there, total_replaced)
 
-  poured_total : {ending : Verdict} {items : List Record} {table : Table} {filled : Filled} → Poured ending items table filled → SevenByTwentyFour table
+  poured_total : {ending : Result (Unit {0}) Refusal} {items : List Record} {table : Table} {filled : Filled} → Poured ending items table filled → SevenByTwentyFour table
       → over_table part filled.table ≡ over_table part table + how_many such (take filled.records items)
   unfolding how_many
   poured_total ends seven = omega arith
   poured_total (stops e) seven = omega arith
-  poured_total (goes {item} {items} {table} {after} {rest} e more) seven =
-      omega (
-        arith,
-        one_total item table seven after e,
-        poured_total more (next_seven item table seven after),
-        many_then such item (take rest.records items),
-      )
+  poured_total (goes {item} {items} {table} {after} {rest} e more) seven = grind (arith, common_steps, many_then, next_seven, one_total, poured_total more (next_seven item table seven after))
 
 -- ---- the two counts
 
@@ -86,13 +70,10 @@ pub together_nothing : (table : Table) → HeldTogether table [] table
 unfolding how_many
 together_nothing table = record { weights = omega arith; refused = omega arith }
 
-pub poured_together : {ending : Verdict} {items : List Record} {table : Table} {filled : Filled} → Poured ending items table filled → SevenByTwentyFour table
+pub poured_together : {ending : Result (Unit {0}) Refusal} {items : List Record} {table : Table} {filled : Filled} → Poured ending items table filled → SevenByTwentyFour table
     → HeldTogether table (take filled.records items) filled.table
 unfolding how_many
-poured_together steps seven = record {
-  weights = poured_total (λ (cell : Cell). cell.weights) settled_gross (λ item before after grown. grown.weights) steps seven;
-  refused = poured_total (λ (cell : Cell). cell.refused) refused_record (λ item before after grown. grown.refused) steps seven;
-}
+poured_together steps seven = grind (arith, common_steps, poured_total)
 
 -- the table in which nothing was heard
 pub empty_weights : weights_of empty_table ≡ 0

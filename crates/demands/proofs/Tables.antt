@@ -1,15 +1,14 @@
 -- Shown: a table filled from a log holds in each cell, and in all together, what a person counts in the records that went in, and when all go in.
 -- Why: it is the lent table in which nothing was heard, so each cell holds nothing but what was counted.
-use Prim.Native.Nat.{ℕ, ◌+◌, ◌*◌, ◌/◌, ◌%◌, ◌<◌}
-use mathlib.Core.Path.{◌≡◌, ◌∙◌, refl, sym, ap}
-use mathlib.Core.Bool.{Bool, true, false, cond, and-eq-true_iff}
+use Rattle.std.specs.Prelude.{Ok, None}
+use Prim.Native.Nat.{ℕ, ◌<◌}
+use mathlib.Core.Path.{◌≡◌, ◌∙◌, sym, ap}
+use mathlib.Core.Bool.{true}
 use mathlib.Core.List.{List, []}
 use native.Mathlib.Omega.{arith}
-use borrow.Author.Tests.{eqb-true, eq-eqb}
-use lib.Arith.{digits_div, digits_mod}
-use lib.Dec.{eqb}
-use lib.IntN.{+ℤ_idl}
+use borrow.Author.Tests.{eq-eqb}
 use lib.Seq.{take-length}
+use Rattle.std.proofs.lemmas.Grind.{common_steps}
 use Rattle.records.specs.declared.records.Record.{Record}
 use Rattle.records.specs.Stepping.{whole_log}
 use Rattle.hour_cell.specs.declared.cells.Cell.{Cell}
@@ -17,8 +16,7 @@ use Rattle.hour_cell.specs.Slots.{slot_of}
 use Rattle.hour_cell.specs.Cells.{sound}
 use Rattle.hour_table.specs.Tables.{empty_table}
 use Rattle.hour_table.specs.Filling.{filled_from}
-use Rattle.hour_mean.specs.declared.Mean.TheVariants as mean_as
-use Rattle.hour_mean.specs.Means.{lowest, mean_of}
+use Rattle.hour_mean.specs.Means.{mean_of}
 use Rattle.demands.specs.Tables.{how_many, cell_of, CellsAreCounted, Fits, GoesInWhole, WholeOnlyWhereItFits, ByTheCalendar, NotInTwoCells, EachHasACell, NothingHeard, SomethingHeard, AllAreCounted}
 use Rattle.demands.specs.LentTables.{Room}
 use Rattle.demands.proofs.TableCells.{empty_seven, empty_cell_lem}
@@ -30,9 +28,7 @@ use Rattle.demands.proofs.LentTables.{filled_further, nothing_lost_of_lent, lent
 -- ---- each cell is what was counted
 
 pub cells_are_counted : CellsAreCounted
-cells_are_counted log weekday hour w h =
-    let held = rw (empty_cell_lem weekday hour w h) at (filled_further log empty_table weekday hour empty_seven) in
-    record { weights = omega (arith, held.weights); sum = held.sum ∙ +ℤ_idl _; refused = omega (arith, held.refused) }
+cells_are_counted log weekday hour w h = grind (arith, common_steps, empty_cell_lem, empty_seven, filled_further)
 
 -- ---- what fits has room in the table in which nothing was heard
 
@@ -44,15 +40,13 @@ module _ (items : List Record) (weekday hour : ℕ) (w : weekday < 7) (h : hour 
   none_refused_yet = ap (λ (cell : Cell). cell.refused) (empty_cell_lem weekday hour w h)
 
   room_there : Fits items weekday hour → Room empty_table items weekday hour
-  room_there fit = record { weights = omega (arith, fit.weights, no_weights_yet); refused = omega (arith, fit.refused, none_refused_yet) }
+  room_there fit = grind (arith, common_steps, no_weights_yet, none_refused_yet)
 
   fits_there : Room empty_table items weekday hour → Fits items weekday hour
-  fits_there room = record { weights = omega (arith, room.weights, no_weights_yet); refused = omega (arith, room.refused, none_refused_yet) }
+  fits_there room = grind (arith, common_steps)
 
 pub goes_in_whole : GoesInWhole
-goes_in_whole log fits =
-    lent_goes_in_whole log empty_table empty_seven empty_is_sound
-    (λ weekday hour w h. room_there (whole_log log).records weekday hour w h (fits weekday hour w h))
+goes_in_whole log fits = grind (arith, common_steps, empty_is_sound, empty_seven, lent_goes_in_whole, room_there)
 
 none_fit : (weekday hour : ℕ) → Fits [] weekday hour
 unfolding how_many
@@ -68,22 +62,10 @@ whole_only_where_it_fits log gone weekday hour w h =
 
 -- the time over a day's seconds is the whole days, and over an hour's the whole hours; behind the weeks stand the weekday and the hour
 pub by_the_calendar : ByTheCalendar
-by_the_calendar item weeks weekday hour seconds w h s e =
-    let days : item.time ≡ (weeks * 7 + weekday) * 86400 + (hour * 3600 + seconds) = omega (arith, e) in
-    let hours : item.time ≡ ((weeks * 7 + weekday) * 24 + hour) * 3600 + seconds = omega (arith, e) in
-    let within : hour * 3600 + seconds < 86400 = omega (arith, h, s) in
-    let day : item.time / 86400 % 7 ≡ weekday = rw (days, digits_div (weeks * 7 + weekday) within) (digits_mod weeks w) in
-    let at : item.time / 3600 % 24 ≡ hour = rw (hours, digits_div ((weeks * 7 + weekday) * 24 + hour) s) (digits_mod (weeks * 7 + weekday) h) in
-    rw (eq-eqb (item.time / 86400 % 7) weekday day, eq-eqb (item.time / 3600 % 24) hour at)
+by_the_calendar item weeks weekday hour seconds w h s e = grind (arith, common_steps)
 
 pub not_in_two_cells : NotInTwoCells
-not_in_two_cells item weekday hour weekday' hour' one other =
-    let (day, at) = (and-eq-true_iff (eqb (item.time / 86400 % 7) weekday) (eqb (item.time / 3600 % 24) hour)).0 one in
-    let (day', at') = (and-eq-true_iff (eqb (item.time / 86400 % 7) weekday') (eqb (item.time / 3600 % 24) hour')).0 other in
-    record {
-      weekday_same = sym (eqb-true (item.time / 86400 % 7) weekday day) ∙ eqb-true (item.time / 86400 % 7) weekday' day';
-      hour_same = sym (eqb-true (item.time / 3600 % 24) hour at) ∙ eqb-true (item.time / 3600 % 24) hour' at';
-    }
+not_in_two_cells item weekday hour weekday' hour' one other = grind (arith, common_steps)
 
 pub each_has_a_cell : EachHasACell
 each_has_a_cell item = record {
@@ -100,23 +82,16 @@ cell_filled_sound : (log : List ℕ) (weekday hour : ℕ) → sound (cell_of (fi
 cell_filled_sound log weekday hour =
     cell_sound (filled_from log empty_table).table (record { weekday = weekday; hour = hour }) (stays_sound.by_log log empty_table empty_is_sound).sound
 
-no_readings : (cell : Cell) → sound cell ≡ true → cell.weights ≡ 0 → mean_of cell ≡ mean_as.NoReadings
+no_readings : (cell : Cell) → sound cell ≡ true → cell.weights ≡ 0 → mean_of cell ≡ Ok None
 unfolding mean_of
 no_readings cell s none = rw (s, eq-eqb cell.weights 0 none)
 
-no_weights : (cell : Cell) → sound cell ≡ true → mean_of cell ≡ mean_as.NoReadings → cell.weights ≡ 0
+no_weights : (cell : Cell) → sound cell ≡ true → mean_of cell ≡ Ok None → cell.weights ≡ 0
 unfolding mean_of
-no_weights cell s e = by_weights (eqb cell.weights 0) refl (rw s at e)
-  where
-    by_weights : (none : Bool) → eqb cell.weights 0 ≡ none → cond none mean_as.NoReadings (mean_as.Fraction (lowest cell.sum cell.weights)) ≡ mean_as.NoReadings
-        → cell.weights ≡ 0
-    by_weights true none e = eqb-true cell.weights 0 none
-    by_weights false none e = let clash : ◌≡◌ {A = ℕ} 0 1 = cc in absurd (omega arith)
+no_weights cell s e = grind (arith, common_steps)
 
 pub nothing_heard : NothingHeard
-nothing_heard log weekday hour w h none =
-    let count = (cells_are_counted log weekday hour w h).weights ∙ none in
-    record { count = count; mean = no_readings (cell_of (filled_from log empty_table).table weekday hour) (cell_filled_sound log weekday hour) count }
+nothing_heard log weekday hour w h none = grind (arith, common_steps, cell_filled_sound, cells_are_counted, no_readings)
 
 pub something_heard : SomethingHeard
 something_heard log weekday hour w h e =

@@ -1,6 +1,8 @@
 -- Shown: times at the edges, a small log counted by hand and filled, lent tables, what records count as, the edges of 31, 8 and 23, means.
 -- Why: each is computed from the definitions.
 use mathlib.Core.Path.{refl}
+use native.Mathlib.Omega.{arith}
+use Rattle.std.proofs.lemmas.Grind.{common_steps}
 use Rattle.refusal.specs.Numbers.{named_in, named_of}
 use Rattle.low_first.specs.LowFirst.{low_first, low_bytes}
 use Rattle.weight.specs.Families.{named_in as family_in, family_named}
@@ -27,28 +29,15 @@ slots_shown = refl
 
 pub counted_by_hand : CountedByHand
 unfolding how_many sum_of
-counted_by_hand = record { first = refl; first_sum = refl; first_refused = refl; second = refl; second_refused = refl; last = refl; exchanged = refl }
+counted_by_hand = grind (arith, common_steps)
 
 pub small_log_filled : SmallLogFilled
 unfolding named_in named_of low_first low_bytes family_in family_named in_range read_as read_of value_of legal bytes_of_record record_in address_of good_address good_weighing good_met good make_record read_record records_of whole_log bytes_of_log weight_noted slot_of sound with_weight with_refused by_reading counts_as empty_table sound_row sound_table table_in put poured filled_from
-small_log_filled = record { silent = refl; whole = refl; left_over = refl; broken_first = refl; empty = refl; taken = refl }
+small_log_filled = grind (arith, common_steps)
 
 pub lent_at_the_edges : LentAtTheEdges
 unfolding named_in named_of low_first low_bytes family_in family_named in_range read_as read_of value_of legal bytes_of_record record_in address_of good_address good_weighing good_met good make_record read_record records_of whole_log bytes_of_log weight_noted slot_of sound with_weight with_refused by_reading counts_as empty_table sound_row sound_table put entered poured filled_from
-lent_at_the_edges = record {
-  stops = refl;
-  stops_ahead = refl;
-  enters = refl;
-  full_now = refl;
-  second_hour = refl;
-  second_day = refl;
-  net_is_good = refl;
-  broken_is_refused = refl;
-  beyond_empty = refl;
-  beyond_log = refl;
-  beyond_broken = refl;
-  beyond_record = refl;
-}
+lent_at_the_edges = grind (arith, common_steps)
 
 pub sound_shown : SoundShown
 unfolding sound

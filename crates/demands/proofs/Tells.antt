@@ -1,5 +1,6 @@
 -- Shown: each notion that the statements are made of tells right from wrong: what differs in one thing does not pass for it.
 -- Why: in each the two sides compute to different numbers.
+use Rattle.std.specs.Prelude.{Result, Ok, Err, Some, None}
 use Prim.Native.Nat.{ℕ}
 use mathlib.Core.Path.{◌≡◌, refl, ap}
 use mathlib.Core.Bool.{Bool, true, false}
@@ -9,9 +10,8 @@ use mathlib.Core.Logic.{inl, inr}
 use native.Mathlib.Omega.{arith}
 use lib.ListN.{get_or, replicate}
 use denote.Ref.{Bor}
+use Rattle.std.proofs.lemmas.Grind.{common_steps}
 use Rattle.refusal.specs.declared.Refusal.TheVariants.{BodyShort, BodyLong, HeldBroken, CheckWrong, AddressIllegal, CodeUnknown, LengthWrong, FieldOutside, RoomShort}
-use Rattle.refusal.specs.declared.Verdict.{Verdict}
-use Rattle.refusal.specs.declared.Verdict.TheVariants.{Good, Refused}
 use Rattle.body.specs.declared.addresses.Address.TheVariants.{Short, Serial}
 use Rattle.check_byte.specs.Register.{shift_in, feed_bits, feed_byte, feed_all, received}
 use Rattle.body.specs.Addresses.{legal, address_bytes, address_in}
@@ -34,7 +34,6 @@ use Rattle.entries.specs.declared.entries.Entry.TheVariants as entry_as
 use Rattle.entries.specs.Entries.{entry_heard}
 use Rattle.meaning.specs.Judging.{judged_message}
 use Rattle.message.specs.Reading.{read_if, read_message}
-use Rattle.capture_walker.specs.declared.stepping.Next.TheVariants as next_as
 use Rattle.capture_walker.specs.declared.walking.Walker.{Walker}
 use Rattle.capture_walker.specs.declared.walking.Walked.{Walked}
 use Rattle.capture_walker.specs.Walking.{start_at, StepTaken, said_end, step_from}
@@ -55,6 +54,7 @@ use Rattle.demands.proofs.Logs.{line_log_whole}
 use Rattle.demands.proofs.Unheard.{always_its_weight}
 use Rattle.demands.proofs.WalkersWalk.{by_walker}
 use Rattle.demands.proofs.WalksShown.{walks_shown}
+use Rattle.refusal.specs.declared.Refusal.{Refusal}
 
 -- ---- counts
 
@@ -129,7 +129,7 @@ weighing_of load four h = by_load load h.load h.kind h.reply
     by_load load Net kind reply = absurd (reply_load reply)
 
 weighing_role : (load : Load) (four : FourBytes) → WeighingHeard Request Of002 (weighing 3 (Short 1) load four) e3 → ⊥
-weighing_role load four h = let was = h.as_reply in let clash : ◌≡◌ {A = ℕ} 0 1 = cc in omega arith
+weighing_role load four h = let was = h.as_reply in cc
 
 -- and the family of the line
 weighing_family : (load : Load) (four : FourBytes) → WeighingHeard Reply Of000 (weighing 3 (Short 1) load four) e3 → four.family ≡ 1
@@ -148,7 +148,7 @@ listed_other h =
 
 -- nor is one of 002 a reading of a line of 000
 listed_family : ListedHeard Of000 Gross (Short 1) other e3 → ⊥
-listed_family h = let was = h.of_line in let clash : ◌≡◌ {A = ℕ} 0 1 = cc in omega arith
+listed_family h = let was = h.of_line in cc
 
 -- ---- premises reach to the end of their range
 
@@ -158,39 +158,39 @@ highest = record { w0 = 0x99; w1 = 0x99; w2 = 0x99; con = 0xFF; family = 2 }
 
 reply_highest : WeightReply Of001 (Serial 16_777_215) highest
 unfolding legal
-reply_highest = record { from = refl; digits = refl; status = omega arith; bit6 = λ e. let clash : ◌≡◌ {A = ℕ} 0 1 = cc in absurd (omega arith); line = refl }
+reply_highest = record { from = refl; digits = refl; status = omega arith; bit6 = λ e. cc; line = refl }
 
 weighed_highest : NotesItsWeight (weighing 0 (Serial 16_777_215) Net highest)
 unfolding good good_weighing read_of read_as family_named named_in good_address address_of legal
-weighed_highest = always_its_weight.weighed (weighing 0 (Serial 16_777_215) Net highest) refl refl (omega arith)
+weighed_highest = grind (arith, common_steps, always_its_weight)
 
 -- the last time of 64 bits
 abbrev last : ℕ → ℕ
 last number = 18_446_744_073_709_551_615
 
-last_time : (heard : List Heard) → whole_log (bytes_of_log (records_heard last Reply Of002 heard)) ≡ record { records = records_heard last Reply Of002 heard; ending = Good }
+last_time : (heard : List Heard) → whole_log (bytes_of_log (records_heard last Reply Of002 heard)) ≡ record { records = records_heard last Reply Of002 heard; ending = Ok tt }
 last_time heard = line_log_whole last (λ (number : ℕ). omega arith) Reply Of002 heard
 
 -- ---- what may be written
 
-sound_address : Sound (Weight Gross (Short 0) other) → ⊥
+sound_address : Sound (Some (Weight Gross (Short 0) other)) → ⊥
 unfolding legal
-sound_address h = let was = h.0 in let clash : ◌≡◌ {A = ℕ} 0 1 = cc in omega arith
+sound_address h = let was = h.0 in cc
 
-sound_reading : Sound (Weight Gross (Short 1) (record { minus = false; number = 1_000_000; point = 1; bit6 = false; bit5 = false; settled = false; overload = false; family = Of002 })) → ⊥
+sound_reading : Sound (Some (Weight Gross (Short 1) (record { minus = false; number = 1_000_000; point = 1; bit6 = false; bit5 = false; settled = false; overload = false; family = Of002 }))) → ⊥
 unfolding in_range
-sound_reading h = let was = h.1 in let clash : ◌≡◌ {A = ℕ} 0 1 = cc in omega arith
+sound_reading h = let was = h.1 in cc
 
-sound_reserved : Sound (Weight Gross (Short 1) (record { minus = false; number = 250; point = 1; bit6 = true; bit5 = false; settled = false; overload = false; family = Of002 })) → ⊥
+sound_reserved : Sound (Some (Weight Gross (Short 1) (record { minus = false; number = 250; point = 1; bit6 = true; bit5 = false; settled = false; overload = false; family = Of002 }))) → ⊥
 unfolding in_range
-sound_reserved h = let was = h.1 in let clash : ◌≡◌ {A = ℕ} 0 1 = cc in omega arith
+sound_reserved h = let was = h.1 in cc
 
-sound_message : Sound (Message (Short 0) 0xA1) → ⊥
+sound_message : Sound (Some (Message (Short 0) 0xA1)) → ⊥
 unfolding legal
-sound_message h = let clash : ◌≡◌ {A = ℕ} 0 1 = cc in omega arith
+sound_message h = cc
 
-sound_refused : Sound (entry_as.Refused RoomShort) → ⊥
-sound_refused h = let clash : ◌≡◌ {A = ℕ} 0 1 = cc in omega arith
+sound_refused : Sound (Some (entry_as.Refused RoomShort)) → ⊥
+sound_refused h = cc
 
 -- ---- refusal 5: among the events, in the log, in the listing, and earned by a frame's body
 
@@ -218,26 +218,26 @@ where_fails : ExactlyWhere ⊥ (Unit {0}) → ⊥
 where_fails h = h.1 tt
 
 -- whatever the three tests say, one verdict is right
-unknown_first : (sized right : Bool) → FirstToFail false sized right Good Good → ⊥
-unknown_first sized right h = let was = h.unknown.1 refl in let clash : ◌≡◌ {A = ℕ} 0 1 = cc in omega arith
+unknown_first : (sized right : Bool) → FirstToFail false sized right (Ok tt) (Ok tt) → ⊥
+unknown_first sized right h = let was = h.unknown.1 refl in cc
 
-length_next : (right : Bool) → FirstToFail true false right Good Good → ⊥
-length_next right h = let was = h.wrong_length.1 (refl, refl) in let clash : ◌≡◌ {A = ℕ} 0 1 = cc in omega arith
+length_next : (right : Bool) → FirstToFail true false right (Ok tt) (Ok tt) → ⊥
+length_next right h = let was = h.wrong_length.1 (refl, refl) in cc
 
-field_next : FirstToFail true true false Good Good → ⊥
-field_next h = let was = h.outside.1 (refl, (refl, refl)) in let clash : ◌≡◌ {A = ℕ} 0 1 = cc in omega arith
+field_next : FirstToFail true true false (Ok tt) (Ok tt) → ⊥
+field_next h = let was = h.outside.1 (refl, (refl, refl)) in cc
 
-then_after : (verdict : Verdict) → FirstToFail true true true (Refused RoomShort) verdict → verdict ≡ Refused RoomShort
+then_after : (verdict : Result (Unit {0}) Refusal) → FirstToFail true true true (Err RoomShort) verdict → verdict ≡ Err RoomShort
 then_after verdict h = h.passed (refl, (refl, refl))
 
-not_unknown : (sized right : Bool) → FirstToFail true sized right Good (Refused CodeUnknown) → ⊥
-not_unknown sized right h = let was = h.unknown.0 refl in let clash : ◌≡◌ {A = ℕ} 0 1 = cc in omega arith
+not_unknown : (sized right : Bool) → FirstToFail true sized right (Ok tt) (Err CodeUnknown) → ⊥
+not_unknown sized right h = let was = h.unknown.0 refl in cc
 
-not_length : (right : Bool) → FirstToFail true true right Good (Refused LengthWrong) → ⊥
-not_length right h = let was = (h.wrong_length.0 refl).1 in let clash : ◌≡◌ {A = ℕ} 0 1 = cc in omega arith
+not_length : (right : Bool) → FirstToFail true true right (Ok tt) (Err LengthWrong) → ⊥
+not_length right h = let was = (h.wrong_length.0 refl).1 in cc
 
-not_field : FirstToFail true true true Good (Refused FieldOutside) → ⊥
-not_field h = let was = (h.outside.0 refl).1.1 in let clash : ◌≡◌ {A = ℕ} 0 1 = cc in omega arith
+not_field : FirstToFail true true true (Ok tt) (Err FieldOutside) → ⊥
+not_field h = let was = (h.outside.0 refl).1.1 in cc
 
 -- ---- walks
 
@@ -258,45 +258,29 @@ leaves_other : LeavesLine (frame 6 3 plain) 0x02 delimited → ⊥
 leaves_other (ff, _) = omega (arith, ff)
 
 leaves_seeking : LeavesLine (frame 6 3 plain) 0xFF seeking → ⊥
-leaves_seeking (_, is) = let z : ◌≡◌ {A = ℕ} 0 1 = cc in omega arith
+leaves_seeking (_, is) = cc
 
 long_behind_ff : LeavesLine (refused BodyLong 257 255) 0xFF seeking → ⊥
-long_behind_ff (inl (inl e, _)) = omega (arith, e)
-long_behind_ff (inl (inr (inl e), _)) = omega (arith, e)
-long_behind_ff (inl (inr (inr e), _)) = omega (arith, e)
-long_behind_ff (inr (_, (other, _))) = other refl
+long_behind_ff h = grind (arith, common_steps)
 
 broken_delimited : LeavesLine (refused HeldBroken 10 1) 0xFF delimited → ⊥
-broken_delimited (inl (inl e, _)) = omega (arith, e)
-broken_delimited (inl (inr (inl e), _)) = omega (arith, e)
-broken_delimited (inl (inr (inr e), _)) = omega (arith, e)
-broken_delimited (inr (_, (other, _))) = other refl
+broken_delimited h = grind (arith, common_steps)
 
 short_seeking : LeavesLine (refused BodyShort 4 1) 0x02 seeking → ⊥
-short_seeking (inl (_, (ff, _))) = omega (arith, ff)
-short_seeking (inr (inl e, _)) = omega (arith, e)
-short_seeking (inr (inr e, _)) = omega (arith, e)
+short_seeking h = grind (arith, common_steps)
 
 short_at_rest : LeavesLine (refused BodyShort 4 1) 0xFF seeking → ⊥
-short_at_rest (inl (_, (_, is))) = let z : ◌≡◌ {A = ℕ} 0 1 = cc in omega arith
-short_at_rest (inr (inl e, _)) = omega (arith, e)
-short_at_rest (inr (inr e, _)) = omega (arith, e)
+short_at_rest h = grind (arith, common_steps)
 
 short_behind_other : LeavesLine (refused BodyShort 4 1) 0x02 delimited → ⊥
-short_behind_other (inl (_, (ff, _))) = omega (arith, ff)
-short_behind_other (inr (inl e, _)) = omega (arith, e)
-short_behind_other (inr (inr e, _)) = omega (arith, e)
+short_behind_other h = grind (arith, common_steps)
 
 broken_at_delimiter : LeavesLine (refused HeldBroken 10 1) 0x02 delimited → ⊥
 broken_at_delimiter (inl (_, (ff, _))) = omega (arith, ff)
-broken_at_delimiter (inr (_, (_, is))) = let z : ◌≡◌ {A = ℕ} 0 1 = cc in omega arith
+broken_at_delimiter (inr (_, (_, is))) = cc
 
 unknown_code : LeavesLine (refused CodeUnknown 6 3) 0xFF delimited → ⊥
-unknown_code (inl (inl e, _)) = omega (arith, e)
-unknown_code (inl (inr (inl e), _)) = omega (arith, e)
-unknown_code (inl (inr (inr e), _)) = omega (arith, e)
-unknown_code (inr (inl e, _)) = omega (arith, e)
-unknown_code (inr (inr e, _)) = omega (arith, e)
+unknown_code h = grind (arith, common_steps)
 
 leaves_nothing : LeavesLine nothing 0xFF delimited → ⊥
 leaves_nothing none = none
@@ -323,14 +307,13 @@ walker_only : {walker end last : Walker} {told other : List Heard} {lending : �
 walker_only walk lends steps = walk.only _ lends _ _ steps
 
 walker_for_ever : {walker end : Walker} {told : List Heard} → WalkerTells walker told end → (lent left : List ℕ) (answered : Walked) → WalkerSteps end lent answered left
-    → (answered.next ≡ next_as.End) × ((answered.walker ≡ end) × (left ≡ lent))
+    → (answered.next ≡ None) × ((answered.walker ≡ end) × (left ≡ lent))
 walker_for_ever walk lent left answered steps =
     let (said, same) = walk.for_ever lent left answered steps in
     (ap (λ (a : Walked). a.next) said, (ap (λ (a : Walked). a.walker) said, same))
 
 no_silence : WalkTells morning 0 [] → ⊥
-no_silence walk = let e = (walk_only {lending = λ _. sevens} walk (λ _. refl) walks_shown.whole_walks.told).0 in let z : ◌≡◌ {A = ℕ} 0 1 = cc in omega arith
+no_silence walk = grind (arith, common_steps, walks_shown)
 
 no_other_end : (block : Bor (List ℕ)) (end : ℕ) {told : List Heard} → block.now ≡ morning → WalkerTells (walker_at block 0) told (walker_at block end) → 13 ≡ end
-no_other_end block end is walk =
-    ap (λ (w : Walker). w.place) (walker_only {last = walker_at block 13} {other = frame 6 3 plain ∷ refused HeldBroken 10 1 ∷ []} {lending = λ _. sevens} walk (λ _. refl) (by_walker block (rw is walks_shown.whole_walks.told))).1
+no_other_end block end is walk = grind (arith, common_steps, by_walker, walks_shown)

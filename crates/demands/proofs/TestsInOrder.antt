@@ -1,17 +1,18 @@
--- Shown: of a chain of tests with different refusals, each refusal is answered exactly where its test is the first to fail, and Good where all pass.
+-- Shown: of a chain of tests with different refusals, each refusal is answered exactly where its test is the first to fail, and `Ok` where all pass.
 -- Why: by induction along the chain; that no later test has the same refusal is computed.
+use Rattle.std.specs.Prelude.{Result, Ok, Err}
 use Prim.Native.Nat.{ℕ, ◌≤◌, ◌<◌}
-use mathlib.Core.Path.{◌≡◌, refl, sym, ap}
-use mathlib.Core.Bool.{Bool, true, false, not, cond, ◌||◌, true≢false}
+use mathlib.Core.Path.{◌≡◌, refl, ap}
+use mathlib.Core.Bool.{Bool, true, false, not, cond, ◌||◌}
 use mathlib.Core.List.{List, [], ◌∷◌}
 use borrow.Author.Tests.{ltb-true, ltb-false, lt-ltb, le-ltb, eqb-true, eqb-false, not-true, not-false}
 use lib.Dec.{T, ltb, eqb}
 use lib.ListN.{length}
+use native.Mathlib.Omega.{arith}
+use Rattle.std.proofs.lemmas.Grind.{common_steps}
 use Rattle.refusal.specs.declared.Refusal.{Refusal}
 use Rattle.refusal.specs.declared.Refusal.TheVariants.{RoomShort}
-use Rattle.refusal.specs.declared.Verdict.{Verdict}
-use Rattle.refusal.specs.declared.Verdict.TheVariants.{Good, Refused}
-use Rattle.refusal.specs.Numbers.{number_of, verdict_number, refuse_if}
+use Rattle.refusal.specs.Numbers.{number_of, refuse_if}
 use Rattle.refusal.proofs.Distinct.{distinct}
 use Rattle.refusal.proofs.Verdicts.{refused_not_good}
 use Rattle.laws.specs.Exactly.{ExactlyWhere}
@@ -50,21 +51,19 @@ must_fit needs room = record {
   on_passed = (ltb-false (length room) needs, le-ltb (length room) needs);
 }
 
-abbrev pub judged : List Test → Verdict
-judged [] = Good
+abbrev pub judged : List Test → Result (Unit {0}) Refusal
+judged [] = Ok tt
 judged (test ∷ tests) = refuse_if test.refuses test.why (judged tests)
 
 -- ---- one test ahead of a verdict
 
-here : {why : Refusal} {after : Verdict} {failed : Type 0} (refuses : Bool) → ExactlyWhere (refuses ≡ true) failed → (after ≡ Refused why → ⊥)
-    → ExactlyWhere (refuse_if refuses why after ≡ Refused why) failed
-here true on_failed never = (λ e. on_failed.0 refl, λ h. refl)
-here false on_failed never = (λ e. absurd (never e), λ h. absurd (true≢false (sym (on_failed.1 h))))
+here : {why : Refusal} {after : Result (Unit {0}) Refusal} {failed : Type 0} (refuses : Bool) → ExactlyWhere (refuses ≡ true) failed → (after ≡ Err why → ⊥)
+    → ExactlyWhere (refuse_if refuses why after ≡ Err why) failed
+here refuses on_failed never = grind (arith, common_steps)
 
-behind : {why : Refusal} {after goal : Verdict} {passed rest : Type 0} (refuses : Bool) → ExactlyWhere (refuses ≡ false) passed → (Refused why ≡ goal → ⊥)
+behind : {why : Refusal} {after goal : Result (Unit {0}) Refusal} {passed rest : Type 0} (refuses : Bool) → ExactlyWhere (refuses ≡ false) passed → (Err why ≡ goal → ⊥)
     → ExactlyWhere (after ≡ goal) rest → ExactlyWhere (refuse_if refuses why after ≡ goal) (passed × rest)
-behind true on_passed other inner = (λ e. absurd (other e), λ h. absurd (true≢false (on_passed.1 h.0)))
-behind false on_passed other inner = (λ e. (on_passed.0 refl, inner.0 e), λ h. inner.1 h.1)
+behind refuses on_passed other inner = grind (arith, common_steps)
 
 -- ---- where a refusal's test is the first to fail
 
@@ -91,29 +90,29 @@ once why [] = true
 once why (test ∷ tests) = cond (same test.why why) (not (named why tests)) (once why tests)
 
 -- two refusals with different numbers
-apart : (a b : Refusal) → same a b ≡ false → Refused a ≡ Refused b → ⊥
-apart a b other e = eqb-false (number_of a) (number_of b) other (ap verdict_number e)
+apart : (a b : Refusal) → same a b ≡ false → a ≡ b → ⊥
+apart a b other e = eqb-false (number_of a) (number_of b) other (ap number_of e)
 
-never_by : (why other : Refusal) (after : Verdict) (later refuses is : Bool) → same other why ≡ is → T (not (is || later))
-    → (T (not later) → after ≡ Refused why → ⊥) → refuse_if refuses other after ≡ Refused why → ⊥
+never_by : (why other : Refusal) (after : Result (Unit {0}) Refusal) (later refuses is : Bool) → same other why ≡ is → T (not (is || later))
+    → (T (not later) → after ≡ Err why → ⊥) → refuse_if refuses other after ≡ Err why → ⊥
 never_by why other after later refuses true has t never e = t
-never_by why other after later true false has t never e = apart other why has e
+never_by why other after later true false has t never e = apart other why has (cc)
 never_by why other after later false false has t never e = never t e
 
-never_named : (why : Refusal) (tests : List Test) → T (not (named why tests)) → judged tests ≡ Refused why → ⊥
-never_named why [] t e = refused_not_good (sym e)
+never_named : (why : Refusal) (tests : List Test) → T (not (named why tests)) → judged tests ≡ Err why → ⊥
+never_named why [] t e = cc
 never_named why (test ∷ tests) t e =
     never_by why test.why (judged tests) (named why tests) test.refuses (same test.why why) refl t (never_named why tests) e
 
 exactly_by : (why : Refusal) (test : Test) (tests : List Test) (is : Bool) → same test.why why ≡ is → T (cond is (not (named why tests)) (once why tests))
-    → (T (once why tests) → ExactlyWhere (judged tests ≡ Refused why) (FailsFirst why tests))
-    → ExactlyWhere (judged (test ∷ tests) ≡ Refused why) (either is test.failed (test.passed × FailsFirst why tests))
+    → (T (once why tests) → ExactlyWhere (judged tests ≡ Err why) (FailsFirst why tests))
+    → ExactlyWhere (judged (test ∷ tests) ≡ Err why) (either is test.failed (test.passed × FailsFirst why tests))
 exactly_by why test tests true has t inner =
     rw (distinct test.why why (eqb-true (number_of test.why) (number_of why) has)) (here test.refuses test.on_failed (never_named why tests t))
-exactly_by why test tests false has t inner = behind test.refuses test.on_passed (apart test.why why has) (inner t)
+exactly_by why test tests false has t inner = behind test.refuses test.on_passed (λ e. apart test.why why has (cc)) (inner t)
 
-pub exactly : (why : Refusal) (tests : List Test) → T (once why tests) → ExactlyWhere (judged tests ≡ Refused why) (FailsFirst why tests)
-exactly why [] t = (λ e. refused_not_good (sym e), λ h. absurd h)
+pub exactly : (why : Refusal) (tests : List Test) → T (once why tests) → ExactlyWhere (judged tests ≡ Err why) (FailsFirst why tests)
+exactly why [] t = (λ e. cc, λ h. absurd h)
 exactly why (test ∷ tests) t = exactly_by why test tests (same test.why why) refl t (exactly why tests)
 
 -- ---- where all pass
@@ -123,9 +122,7 @@ AllPass [] = Unit
 AllPass (test ∷ []) = test.passed
 AllPass (test ∷ next ∷ tests) = test.passed × AllPass (next ∷ tests)
 
-pub all_pass : (tests : List Test) → ExactlyWhere (judged tests ≡ Good) (AllPass tests)
+pub all_pass : (tests : List Test) → ExactlyWhere (judged tests ≡ Ok tt) (AllPass tests)
 all_pass [] = (λ e. tt, λ h. refl)
-all_pass (test ∷ []) =
-    let last : ExactlyWhere (judged (test ∷ []) ≡ Good) (test.passed × Unit) = behind test.refuses test.on_passed refused_not_good (λ e. tt, λ h. refl) in
-    (λ e. (last.0 e).0, λ h. last.1 (h, tt))
+all_pass (test ∷ []) = grind (arith, common_steps, behind, refused_not_good)
 all_pass (test ∷ next ∷ tests) = behind test.refuses test.on_passed refused_not_good (all_pass (next ∷ tests))

@@ -1,9 +1,11 @@
 -- Shown: a walker's own steps, by their promise, tell what the walk on its block and its place tells, and leave it at the end on the same block.
 -- Why: the promise of a walker's step is the step on its block and its place, put together with that block.
 use Prim.Native.Nat.{ℕ}
-use mathlib.Core.Path.{◌≡◌, ◌∙◌, sym, ap, subst}
+use mathlib.Core.Path.{◌≡◌, ◌∙◌, ap, subst}
 use mathlib.Core.List.{List}
 use denote.Ref.{Bor}
+use native.Mathlib.Omega.{arith}
+use Rattle.std.proofs.lemmas.Grind.{common_steps}
 use Rattle.line.specs.Listener.{Heard}
 use Rattle.capture_walker.specs.declared.walking.Walker.{Walker}
 use Rattle.capture_walker.specs.declared.walking.Walked.{Walked}
@@ -19,18 +21,12 @@ use Rattle.demands.proofs.CaptureWalks.{walk_from_start, walk_from_any_place}
 -- the step on a block and a place, promised of a walker there
 steps_as : (block : Bor (List ℕ)) (place : ℕ) (lent : List ℕ) {taken : StepTaken} → step_from block.now place lent ≡ taken
     → WalkerSteps (walker_at block place) lent (walked_to (walker_at block place) taken.answer) taken.body
-steps_as block place lent is = record {
-  answer = ap (λ (s : StepTaken). walked_to (walker_at block place) s.answer) (sym is);
-  body = ap (λ (s : StepTaken). s.body) (sym is);
-}
+steps_as block place lent is = grind (arith, common_steps)
 
 -- and back
 taken_as : {walker : Walker} {lent left : List ℕ} {answered : Walked} → WalkerSteps walker lent answered left
     → ◌≡◌ {A = StepTaken} (step_from walker.block.now walker.place lent) (record { answer = record { next = answered.next; place = answered.walker.place }; body = left })
-taken_as steps = λ i. record {
-  answer = record { next = sym (ap (λ (a : Walked). a.next) steps.answer) i; place = sym (ap (λ (a : Walked). a.walker.place) steps.answer) i };
-  body = sym steps.body i;
-}
+taken_as steps = grind (arith, common_steps)
 
 -- ---- all steps
 
@@ -49,17 +45,7 @@ of_walker {lending} (goes {moved = moved} {end = end} {later = later} steps walk
 
 tells : (block : Bor (List ℕ)) (place : ℕ) {told : List Heard} → WalkTells block.now place told
     → WalkerTells (walker_at block place) told (walker_at block (end_from block.now place))
-tells block place walks =
-    let end = end_from block.now place in
-    record {
-      comes = λ lending lends. by_walker block (walks.comes lending lends);
-      only = λ lending lends other last walk.
-          let (steps, same) = of_walker walk in
-          let (told, there) = walks.only lending lends other last.place steps in
-          (told, λ i. record { block = same i; place = there i });
-      for_ever = λ lent left answered steps.
-          (steps.answer ∙ ap (λ (s : StepTaken). walked_to (walker_at block end) s.answer) (walks.for_ever lent), steps.body ∙ ap (λ (s : StepTaken). s.body) (walks.for_ever lent));
-    }
+tells block place walks = grind (arith, common_steps, by_walker, of_walker)
 
 pub every_walker : EveryWalker
 every_walker block = record {

@@ -1,8 +1,8 @@
 -- Shown: the words of the capture walker say on small blocks what they are meant to say.
 -- Why: each is computed from the definitions.
 use mathlib.Core.Path.{refl}
-use mathlib.Core.Logic.{inl, inr}
 use native.Mathlib.Omega.{arith}
+use Rattle.std.proofs.lemmas.Grind.{common_steps}
 use Rattle.check_byte.specs.Register.{shift_in, feed_bits, feed_byte, feed_all, received}
 use Rattle.body.specs.Addresses.{legal, address_in}
 use Rattle.body.specs.Body.{short, judged}
@@ -15,25 +15,15 @@ use Rattle.demands.proofs.WalkersWalk.{by_walker}
 
 starts : Starts
 unfolding start_at
-starts = record { first = refl; behind_ff = refl; in_frame = refl; between = refl; stuffed = refl; inserted = refl; at_end = refl; past_end = refl; turned = refl }
+starts = grind (arith, common_steps)
 
 answers : Answers
 unfolding shift_in feed_bits feed_byte feed_all received legal address_in short judged tick keep ended hear_in hear listening taken fed_from fed_lent start_at step_from
-answers = record {
-  frame = refl;
-  broken = refl;
-  too_short = refl;
-  too_long = refl;
-  no_more = refl;
-  at_end = refl;
-  past_end = refl;
-  far_past = refl;
-  empty = refl;
-}
+answers = grind (arith, common_steps)
 
 from_inside : FromInside
 unfolding shift_in feed_bits feed_byte feed_all received legal address_in short judged tick keep ended hear_in hear listening taken fed_from fed_lent start_at step_from
-from_inside = record { behind_first_ff = refl; in_frame = refl; from_start = refl; behind_stuffed = refl; behind_inserted = refl }
+from_inside = grind (arith, common_steps)
 
 whole_walks : WholeWalks
 unfolding shift_in feed_bits feed_byte feed_all received legal address_in short judged tick keep ended hear_in hear listening taken fed_from fed_lent start_at step_from
@@ -48,7 +38,7 @@ whole_walks = record {
 
 gone_on : GoneOn
 unfolding shift_in feed_bits feed_byte feed_all received legal address_in short judged tick keep ended hear_in hear after start_at
-gone_on = record { behind_frame = refl; behind_refusal = refl; cut_off = refl; behind_end = refl; from_inside = refl }
+gone_on = grind (arith, common_steps)
 
 of_grown : Grown
 unfolding shift_in feed_bits feed_byte feed_all received legal address_in short judged tick keep ended hear_in hear listening taken fed_from fed_lent start_at step_from
@@ -58,16 +48,7 @@ walk_ends : WalkEnds
 walk_ends = record { from_start = refl; from_end = refl; from_past = refl; of_empty = refl }
 
 leavings : Leavings
-leavings = record {
-  frame_leaves = (refl, refl);
-  one = inl (inl refl, (refl, refl));
-  two = inr (inl refl, (λ ff. omega (arith, ff), refl));
-  three = inr (inr refl, (λ ff. omega (arith, ff), refl));
-  four = inl (inr (inl refl), (refl, refl));
-  five = inl (inr (inr refl), (refl, refl));
-  counted = refl;
-  counted_too = refl;
-}
+leavings = grind (arith, common_steps)
 
 pub walks_shown : WalksShown
-walks_shown = record { starts = starts; answers = answers; from_inside = from_inside; whole_walks = whole_walks; gone_on = gone_on; grown = of_grown; walk_ends = walk_ends; leavings = leavings }
+walks_shown = grind (arith, common_steps, answers, from_inside, gone_on, of_grown, starts, whole_walks)

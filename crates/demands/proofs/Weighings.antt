@@ -1,16 +1,17 @@
 -- Shown: no weighing in the log and no weight in the listing, of any bytes from any state handed in, unless a reply C2 or C3 with its four bytes was heard.
 -- Why: a line hands out a body only where it is good, a record or an entry of a weight is made of such a body alone, and such a body is its parts again.
+use Rattle.std.specs.Prelude.{Result, Ok, Err, Option, Some, None}
 use mir.Facts.{and_yes}
 use Prim.Native.Nat.{ℕ, ◌+◌}
 use mathlib.Core.Path.{◌≡◌, ◌∙◌, refl, sym, ap, subst}
 use mathlib.Core.List.Memᴰ
 use mathlib.Core.List.{List, [], ◌∷◌, map, Memᴰ}
 use mathlib.Core.Logic.{◌⊎◌, inl, inr}
-use native.Mathlib.Omega.{arith}
 use lib.Dec.{T, ltb}
 use lib.Pow.{are_bytes}
 use lib.ListN.{length}
-use Rattle.refusal.specs.declared.Verdict.TheVariants.{Good}
+use native.Mathlib.Omega.{arith}
+use Rattle.std.proofs.lemmas.Grind.{common_steps}
 use Rattle.laws.proofs.ByteLists.{bytes_take, bytes_one_more}
 use Rattle.body.specs.declared.addresses.Address.{Address}
 use Rattle.body.specs.Body.{judged, code_in, data_in}
@@ -29,15 +30,9 @@ use Rattle.codes.specs.declared.table.Role.{Role}
 use Rattle.codes.specs.declared.table.Role.TheVariants.{Reply}
 use Rattle.codes.specs.declared.table.Load.{Load}
 use Rattle.meaning.specs.declared.meaning.SaidWeight.{SaidWeight}
-use Rattle.meaning.specs.declared.meaning.WeightOrNot.{WeightOrNot}
-use Rattle.meaning.specs.declared.meaning.WeightOrNot.TheVariants as said_as
 use Rattle.meaning.specs.Weights.{weight_said}
-use Rattle.message.specs.declared.reading.Received.{Received}
-use Rattle.message.specs.declared.reading.Received.TheVariants as received_as
 use Rattle.message.specs.Reading.{read_message}
 use Rattle.records.specs.declared.records.Record.{Record}
-use Rattle.weighing_log.specs.declared.hearing.Noted.{Noted}
-use Rattle.weighing_log.specs.declared.hearing.Noted.TheVariants as noted_as
 use Rattle.weighing_log.specs.Hearing.{noted_heard}
 use Rattle.weighing_log.specs.Heard.{code_of}
 use Rattle.weighing_log.proofs.Heard.{refusal_kind}
@@ -49,13 +44,15 @@ use Rattle.entries.proofs.Handed.{handed_out}
 use Rattle.listing.proofs.Handed.{lists_the_same}
 use Rattle.demands.proofs.ByFamily.{same_family, read_family}
 use Rattle.demands.specs.Weighings.{ReplyHeard, Among, WeighingHeard, NotedAsHeard, note_then, records_from, LogAsHeard, ListedHeard, ListedAsHeard, ListingAsHeard, CheckedOnce}
+use Rattle.refusal.specs.declared.Refusal.{Refusal}
+use Rattle.message.specs.declared.reading.Message.{Message}
 
 -- ---- what a line hands out
 
 -- a frame's body is good, and its numbers are bytes
 abbrev Whole : Heard → Type 0
 Whole nothing = Unit {0}
-Whole (frame wire kept body) = T (are_bytes body) × (judged body ≡ Good)
+Whole (frame wire kept body) = T (are_bytes body) × (judged body ≡ Ok tt)
 Whole (refused why wire kept) = Unit {0}
 
 abbrev Bytes : Listener → Type 0
@@ -99,12 +96,11 @@ all_whole reader all bytes small =
 -- a good body is its parts again
 reply : (wire kept : ℕ) (body : List ℕ) → Whole (frame wire kept body) → {load : Load} {address : Address} {four : FourBytes} → address_in body ≡ address
     → code_in body ≡ code_of load → in_order four ≡ data_in body → ReplyHeard (frame wire kept body) load address four
-reply wire kept body (all, good) is_Address is_code is_data =
-    record { wire = wire; kept = kept; body = ap (frame wire kept) (sym (rebuilt body all good) ∙ rw (is_Address, is_code, ← is_data)) }
+reply wire kept body is_whole is_Address is_code is_data = grind (arith, common_steps, rebuilt)
 
-noted : (heard : Heard) → Whole heard → (time : ℕ) (role : Role) (family : Family) (item : Record) → noted_heard time role family heard ≡ noted_as.Record item → (item.kind ≡ 3 → ⊥)
+noted : (heard : Heard) → Whole heard → (time : ℕ) (role : Role) (family : Family) (item : Record) → noted_heard time role family heard ≡ Ok (Some item) → (item.kind ≡ 3 → ⊥)
     → (item.time ≡ time) × WeighingHeard role family item heard
-noted nothing is_whole time role family item e weighing = let clash : ◌≡◌ {A = ℕ} 0 1 = cc in absurd (omega arith)
+noted nothing is_whole time role family item e weighing = cc
 noted (frame wire kept body) is_whole time role family item e weighing =
     let was = weighing_heard role family time body item e weighing in (
       was.at_time,
@@ -120,20 +116,19 @@ noted (refused why wire kept) is_whole time role family item e weighing = absurd
 
 -- an entry is a weight only where a message says one
 module _ (family : Family) (load : Load) (address : Address) (reading : Reading) where
-  record SaysIt (weight : WeightOrNot) (from : Address) : Type 0 where
+  record SaysIt (weight : Option SaidWeight) (from : Address) : Type 0 where
     said : SaidWeight
-    says : weight ≡ said_as.Weight said
+    says : weight ≡ Some said
     same_load : said.load ≡ load
     same_reading : said.reading ≡ reading
     same_address : from ≡ address
 
-  says_weight_lem : (from : Address) (code : ℕ) (weight : WeightOrNot) → message_entry from code weight ≡ Weight load address reading → SaysIt weight from
-  says_weight_lem from code (said_as.Weight said) e = record { said = said; says = refl; same_load = cc; same_reading = cc; same_address = cc }
-  says_weight_lem from code said_as.NoWeight e = let clash : ◌≡◌ {A = ℕ} 0 1 = cc in absurd (omega arith)
+  says_weight_lem : (from : Address) (code : ℕ) (weight : Option SaidWeight) → message_entry from code weight ≡ Weight load address reading → SaysIt weight from
+  says_weight_lem from code weight e = grind (arith, common_steps)
 
-  read_listed : (wire kept : ℕ) (body : List ℕ) → Whole (frame wire kept body) → (received : Received) → read_message Reply family body ≡ received
+  read_listed : (wire kept : ℕ) (body : List ℕ) → Whole (frame wire kept body) → (received : Result Message Refusal) → read_message Reply family body ≡ received
       → entry_of received ≡ Weight load address reading → ListedHeard family load address reading (frame wire kept body)
-  read_listed wire kept body is_whole (received_as.Message message) was e =
+  read_listed wire kept body is_whole (Ok message) was e =
       let it = says_weight_lem message.address message.code (weight_said message.what) e in
       record {
         four = it.said.bytes;
@@ -146,19 +141,17 @@ module _ (family : Family) (load : Load) (address : Address) (reading : Reading)
             reply wire kept body is_whole (sym (address_is Reply family body message was) ∙ it.same_address)
             ((said_code Reply family body message was it.said it.says).1 ∙ ap code_of it.same_load) (spelled Reply family body message was it.said it.says);
       }
-  read_listed wire kept body is_whole (received_as.Refused why) was e = let clash : ◌≡◌ {A = ℕ} 0 1 = cc in absurd (omega arith)
+  read_listed wire kept body is_whole (Err why) was e = cc
 
-  listed : (heard : Heard) → Whole heard → entry_heard family heard ≡ Weight load address reading → ListedHeard family load address reading heard
+  listed : (heard : Heard) → Whole heard → entry_heard family heard ≡ Some (Weight load address reading) → ListedHeard family load address reading heard
   unfolding entry_heard
-  listed nothing is_whole e = let clash : ◌≡◌ {A = ℕ} 0 1 = cc in absurd (omega arith)
-  listed (frame wire kept body) is_whole e = read_listed wire kept body is_whole (read_message Reply family body) refl e
-  listed (refused why wire kept) is_whole e = let clash : ◌≡◌ {A = ℕ} 0 1 = cc in absurd (omega arith)
+  listed heard is_whole e = grind (arith, common_steps, read_listed)
 
 pub noted_as_heard : NotedAsHeard
 noted_as_heard reader all byte = noted (hear (view reader) byte).event (whole (view reader) byte (handed reader all))
 
 pub listed_as_heard : ListedAsHeard
-listed_as_heard reader all byte family load address reading = listed family load address reading (hear (view reader) byte).event (whole (view reader) byte (handed reader all))
+listed_as_heard reader all byte family load address reading = grind (arith, common_steps, handed, listed, whole)
 
 -- ---- all events
 
@@ -170,14 +163,14 @@ one_on found = record { event = found.event; among = Memᴰ.tail found.among; su
 
 -- a record of the log was made of one of the events: such an event as each is that it is made of
 module _ (Known Such : Heard → Type 0) (time : ℕ → ℕ) (role : Role) (family : Family) (item : Record)
-    (each : (heard : Heard) (number : ℕ) → Known heard → noted_heard (time number) role family heard ≡ noted_as.Record item → Such heard) where
-  by_note : (heard : Heard) (later : List Heard) (number : ℕ) → Known heard → (records : List Record) → (Memᴰ item records → Among later Such) → (made : Noted)
+    (each : (heard : Heard) (number : ℕ) → Known heard → noted_heard (time number) role family heard ≡ Ok (Some item) → Such heard) where
+  by_note : (heard : Heard) (later : List Heard) (number : ℕ) → Known heard → (records : List Record) → (Memᴰ item records → Among later Such) → (made : Result (Option Record) Refusal)
       → noted_heard (time number) role family heard ≡ made → Memᴰ item (note_then made records) → Among (heard ∷ later) Such
-  by_note heard later number known records behind noted_as.Nothing e among = one_on (behind among)
-  by_note heard later number known records behind (noted_as.Record other) e (Memᴰ.head same) =
-      record { event = heard; among = Memᴰ.head refl; such = each heard number known (e ∙ ap noted_as.Record (sym same)) }
-  by_note heard later number known records behind (noted_as.Record other) e (Memᴰ.tail among) = one_on (behind among)
-  by_note heard later number known records behind (noted_as.Refused why) e among = one_on (behind among)
+  by_note heard later number known records behind (Ok None) e among = one_on (behind among)
+  by_note heard later number known records behind (Ok (Some other)) e (Memᴰ.head same) =
+      record { event = heard; among = Memᴰ.head refl; such = each heard number known (cc) }
+  by_note heard later number known records behind (Ok (Some other)) e (Memᴰ.tail among) = one_on (behind among)
+  by_note heard later number known records behind (Err why) e among = one_on (behind among)
 
   pub in_log : (heard : List Heard) (number : ℕ) → Of Known heard → Memᴰ item (records_from time role family number heard) → Among heard Such
   unfolding records_from
@@ -192,7 +185,7 @@ log_as_heard reader all bytes small time role family item among weighing =
     (events (view reader) bytes) 1 (all_whole reader all bytes small) among
 
 -- the same of an entry of the listing
-module _ (Known Such : Heard → Type 0) (family : Family) (entry : Entry) (each : (heard : Heard) → Known heard → entry_heard family heard ≡ entry → Such heard) where
+module _ (Known Such : Heard → Type 0) (family : Family) (entry : Option Entry) (each : (heard : Heard) → Known heard → entry_heard family heard ≡ entry → Such heard) where
   pub in_listing : (heard : List Heard) → Of Known heard → Memᴰ entry (map (entry_heard family) heard) → Among heard Such
   in_listing [] all among = absurd (Memᴰ.not-nil among)
   in_listing (heard ∷ later) all (Memᴰ.head same) =
@@ -201,8 +194,8 @@ module _ (Known Such : Heard → Type 0) (family : Family) (entry : Entry) (each
 
 pub listing_as_heard : ListingAsHeard
 listing_as_heard reader all bytes small family load address reading =
-    in_listing Whole (ListedHeard family load address reading) family (Weight load address reading) (listed family load address reading) (events (view reader) bytes)
+    in_listing Whole (ListedHeard family load address reading) family (Some (Weight load address reading)) (listed family load address reading) (events (view reader) bytes)
     (all_whole reader all bytes small)
 
 pub checked_once : CheckedOnce
-checked_once family listener bytes = record { entries = handed_out family listener bytes; lines = lists_the_same family listener bytes }
+checked_once family listener bytes = grind (arith, common_steps, handed_out, lists_the_same)

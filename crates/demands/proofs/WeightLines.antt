@@ -1,38 +1,33 @@
 -- Shown: a weight line that was written tells by its digits the value of its reading, or shows hyphens where the reading is overloaded.
 -- Why: no field has a blank or an end of line in it, so its blanks part it into its fields; six digits of a number below a million spell that number.
+use Rattle.std.specs.Prelude.{Ok, Some, None}
 use Prim.Native.Nat.{ℕ, zero, suc, ◌+◌, ◌*◌, ◌-◌, ◌/◌, ◌%◌, ◌^◌, ◌≤◌, ◌<◌}
 use Prim.Native.Char.{code}
-use mathlib.Core.Path.{◌≡◌, ◌∙◌, refl, sym, ap, ap₂, subst}
+use mathlib.Core.Path.{◌≡◌, ◌∙◌, refl, sym, ap, subst}
 use mathlib.Core.Bool.{Bool, true, false, cond, not, or-true, true≢false, and-eq-true_iff}
 use mathlib.Core.List.{List, [], ◌∷◌, ◌++◌}
 use native.Mathlib.Omega.{arith}
 use lib.Dec.{ltb, eqb}
 use lib.ListN.{length, drop, get_or}
 use lib.Seq.{take-append_seam}
-use borrow.Author.Tests.{ne_eqb, lt-ltb, ltb-true, le-leb, not-false}
+use borrow.Author.Tests.{ne_eqb, lt-ltb, ltb-true, not-false}
+use Rattle.std.proofs.lemmas.Grind.{common_steps}
 use Rattle.refusal.specs.Numbers.{number_of}
 use Rattle.refusal.proofs.Verdicts.{test_passed}
 use Rattle.body.specs.declared.addresses.Address.{Address}
-use Rattle.body.specs.declared.addresses.Address.TheVariants.{Short, Serial}
-use Rattle.line.specs.Listener.{Heard, nothing, frame, refused}
+use Rattle.line.specs.Listener.{Heard}
 use Rattle.weight.specs.declared.families.Family.{Family}
 use Rattle.weight.specs.declared.Reading.{Reading}
-use Rattle.weight.specs.declared.Value.TheVariants as value_as
-use Rattle.weight.specs.Families.{Called, plain_bit, key_code, net_mode, event, scale_number, reserved, terminal}
 use Rattle.weight.specs.Bytes.{in_range}
 use Rattle.weight.specs.Tenths.{tenths_shown}
 use Rattle.weight.proofs.Sizes.{legal_number, legal_point}
 use Rattle.codes.specs.declared.table.Load.{Load}
-use Rattle.codes.specs.declared.table.Load.TheVariants.{Net, Gross}
-use Rattle.codes.specs.declared.table.Role.TheVariants.{Reply}
-use Rattle.message.specs.Reading.{read_message}
 use Rattle.entries.specs.declared.entries.Entry.TheVariants as entry_as
 use Rattle.entries.specs.Entries.{entry_heard}
 use Rattle.listing.specs.Texts.{spelt, digit, digits, six_digits, decimal_in, decimal, hex_byte, address_text, sign_byte, mark_byte}
-use Rattle.listing.specs.Lines.{line, load_text, fifth_fields, mark_fields, digits_field, reading_fields, line_of}
+use Rattle.listing.specs.Lines.{line, load_text, digits_field, reading_fields, line_of}
 use Rattle.listing.specs.Writing.{written_line}
 use Rattle.demands.specs.WeightLines.{parts, word, after_word, field, is_digit, any_digit, all_digits, shows_digits, spelling, number_shown, value_shown, Tells, WeightLine, WeightLinesTell, HeardLinesTell, OnlyWeightsSayWeight, TotalSaysNoWeight}
-use Rattle.demands.specs.WrittenDown.{Sound}
 use Rattle.demands.proofs.Overload.{overload_refused}
 use Rattle.demands.proofs.Reading.{verdict_of_lem}
 use Rattle.demands.proofs.WrittenDown.{body_sound}
@@ -67,9 +62,8 @@ field_of : (place : ℕ) (first : List ℕ) (more : List (List ℕ)) → AllWhol
 unfolding field
 field_of zero first [] whole = word_of_lem first (code "\n") [] whole.0 refl
 field_of zero first (next ∷ more) whole = word_of_lem first (code " ") (line next more) whole.0 refl
-field_of (suc place) first [] whole = ap (field place) (after_of first (code "\n") [] whole.0 refl) ∙ none_behind place
-field_of (suc place) first (next ∷ more) whole =
-    ap (field place) (after_of first (code " ") (line next more) whole.0 refl) ∙ field_of place next more whole.1
+field_of (suc place) first [] whole = grind (arith, common_steps, after_of, none_behind)
+field_of (suc place) first (next ∷ more) whole = grind (arith, common_steps, after_of, field_of place next more whole.1)
 
 -- ---- each field of a weight line is whole
 
@@ -79,11 +73,7 @@ whole_then (byte ∷ one) other w v = (w.0, whole_then one other w.1 v)
 
 -- 48 and above
 digit_high : (value : ℕ) → 48 ≤ digit value
-digit_high value = by_test (ltb value 10)
-  where
-    by_test : (test : Bool) → 48 ≤ cond test (48 + value) (55 + value)
-    by_test true = omega arith
-    by_test false = omega arith
+digit_high value = grind (arith, common_steps)
 
 high_whole : (byte : ℕ) → 48 ≤ byte → parts byte ≡ false
 high_whole byte high = rw (ne_eqb byte 32 (λ e. omega arith), ne_eqb byte 10 (λ e. omega arith))
@@ -93,8 +83,7 @@ digit_whole value = (high_whole (digit value) (digit_high value), tt)
 
 digits_whole : (base width number : ℕ) → Whole (digits base width number)
 digits_whole base zero number = tt
-digits_whole base (suc width) number =
-    whole_then (digits base width (number / base)) (digit (number % base) ∷ []) (digits_whole base width (number / base)) (digit_whole (number % base))
+digits_whole base (suc width) number = grind (arith, common_steps, digit_whole, whole_then, digits_whole base width (number / base))
 
 decimal_in_whole : (more number : ℕ) → Whole (decimal_in more number)
 unfolding decimal_in
@@ -109,22 +98,6 @@ decimal_whole : (number : ℕ) → Whole (decimal number)
 unfolding decimal
 decimal_whole number = decimal_in_whole 19 number
 
-address_whole : (address : Address) → Whole (address_text address)
-address_whole (Short address) = decimal_whole address
-address_whole (Serial serial) = (refl, (refl, decimal_whole serial))
-
-load_whole : (load : Load) → Whole (load_text load)
-load_whole Net = (refl, (refl, (refl, tt)))
-load_whole Gross = (refl, (refl, (refl, (refl, (refl, tt)))))
-
-mark_whole : (mark : Bool) → Whole (mark_byte mark ∷ [])
-mark_whole true = (refl, tt)
-mark_whole false = (refl, tt)
-
-sign_whole : (minus : Bool) → Whole (sign_byte minus ∷ [])
-sign_whole true = (refl, tt)
-sign_whole false = (refl, tt)
-
 hyphens_whole : Whole (spelt "------")
 hyphens_whole = (refl, (refl, (refl, (refl, (refl, (refl, tt))))))
 
@@ -132,37 +105,16 @@ shown_whole : (over : Bool) (number : ℕ) → Whole (cond over (spelt "------")
 shown_whole true number = hyphens_whole
 shown_whole false number = digits_whole 10 6 number
 
-mode_whole : (called : Called) (set : Bool) → AllWhole (fifth_fields called set)
-mode_whole net_mode true = ((refl, (refl, (refl, tt))), tt)
-mode_whole net_mode false = ((refl, (refl, (refl, (refl, (refl, tt))))), tt)
-mode_whole scale_number true = ((refl, (refl, (refl, (refl, (refl, (refl, tt)))))), tt)
-mode_whole scale_number false = ((refl, (refl, (refl, (refl, (refl, (refl, tt)))))), tt)
-mode_whole plain_bit set = tt
-mode_whole key_code set = tt
-mode_whole event set = tt
-mode_whole reserved set = tt
-
-weight_whole : Whole (spelt "weight")
-weight_whole = (refl, (refl, (refl, (refl, (refl, (refl, tt))))))
-
-marks_whole : (reading : Reading) → AllWhole (mark_fields reading)
-marks_whole reading =
-    let behind = mode_whole (terminal reading.family).fifth reading.bit5 in
-    (digits_whole 10 1 reading.point, (mark_whole reading.settled, (mark_whole reading.overload, behind)))
-
 -- the line's fields
 module _ (number : ℕ) (load : Load) (address : Address) (reading : Reading) where
   abbrev text : List ℕ
-  text = line_of number (entry_as.Weight load address reading)
+  text = line_of number (Some (entry_as.Weight load address reading))
 
   abbrev behind : List (List ℕ)
   behind = spelt "weight" ∷ load_text load ∷ address_text address ∷ reading_fields reading
 
   fields_whole : AllWhole (decimal number ∷ behind)
-  fields_whole =
-      let shown : AllWhole (reading_fields reading) =
-      (sign_whole reading.minus, (shown_whole reading.overload reading.number, marks_whole reading)) in
-      (decimal_whole number, (weight_whole, (load_whole load, (address_whole address, shown))))
+  fields_whole = grind (arith, common_steps, decimal_whole, shown_whole)
 
   field_is : (place : ℕ) → field place text ≡ get_or (decimal number ∷ behind) place []
   field_is place = field_of place (decimal number) behind fields_whole
@@ -180,14 +132,11 @@ digit_says value low = rw (lt-ltb value 10 low) (omega arith)
 number_back : (width number : ℕ) → number < 10 ^ width → number_shown (digits 10 width number) ≡ number
 unfolding spelling
 number_back zero number low = omega arith
-number_back (suc width) number low =
-    spelling_then 0 (digits 10 width (number / 10)) (digit (number % 10))
-    ∙ ap₂ (λ (tens ones : ℕ). tens * 10 + ones) (number_back width (number / 10) (omega arith)) (digit_says (number % 10) (omega arith))
-    ∙ omega arith
+number_back (suc width) number low = grind (arith, common_steps, digit_says, spelling_then, number_back width (number / 10) (omega arith))
 
 -- the last of some digits is one
 digit_is : (value : ℕ) → value < 10 → is_digit (digit value) ≡ true
-digit_is value low = rw (lt-ltb value 10 low, le-leb 48 (48 + value) (omega arith), le-leb (48 + value) 57 (omega arith))
+digit_is value low = grind (arith, common_steps)
 
 any_then : (ahead : List ℕ) (last : ℕ) → is_digit last ≡ true → any_digit (ahead ++ (last ∷ [])) ≡ true
 unfolding any_digit
@@ -204,8 +153,7 @@ all_then (byte ∷ more) last all is =
 all_shown : (width number : ℕ) → all_digits (digits 10 width number) ≡ true
 unfolding all_digits
 all_shown zero number = refl
-all_shown (suc width) number =
-    all_then (digits 10 width (number / 10)) (digit (number % 10)) (all_shown width (number / 10)) (digit_is (number % 10) (omega arith))
+all_shown (suc width) number = grind (arith, common_steps, all_then, digit_is, all_shown width (number / 10))
 
 six_shown : (number : ℕ) → any_digit (six_digits number) ≡ true
 six_shown number = any_then (digits 10 5 (number / 10)) (digit (number % 10)) (digit_is (number % 10) (omega arith))
@@ -245,50 +193,33 @@ module _ (number : ℕ) (load : Load) (address : Address) (reading : Reading) (w
       let digits : field 5 shown ≡ six_digits reading.number = digits_are (rw off) in
       let any : shows_digits shown ≡ true = ap any_digit digits ∙ six_shown reading.number in
       record {
-        digits = λ _. is ∙ ap value_as.Tenths (sym (value_is off));
+        digits = λ _. is ∙ ap Ok (sym (value_is off));
         six = λ _. (ap length digits, ap all_digits digits ∙ all_shown 6 reading.number);
-        no_digits_lem = λ why e. let clash : value_as.Tenths (tenths_shown reading) ≡ value_as.Refused why = sym is ∙ e in let z : ◌≡◌ {A = ℕ} 0 1 = cc in absurd (omega arith);
-        hyphens = λ none. absurd (true≢false (sym any ∙ none));
+        no_digits_lem = λ why e. cc;
+        hyphens = λ none. cc;
         light_off = λ _. light_is off;
-        light_on = λ none. absurd (true≢false (sym any ∙ none));
+        light_on = λ none. cc;
       }
 
   over_tells : reading.overload ≡ true → Tells shown reading
-  over_tells over =
-      let is = (overload_refused.value reading).twenty_four within over in
-      let hyphened : field 5 shown ≡ spelt "------" = digits_are (rw over) in
-      let none : shows_digits shown ≡ false = ap any_digit hyphened ∙ no_digit in
-      record {
-        digits = λ any. absurd (true≢false (sym any ∙ none));
-        six = λ any. absurd (true≢false (sym any ∙ none));
-        no_digits_lem = λ why e. none;
-        hyphens = λ _. (hyphened, is);
-        light_off = λ any. absurd (true≢false (sym any ∙ none));
-        light_on = λ _. light_is over;
-      }
+  over_tells over = grind (arith, common_steps, digits_are, light_is, no_digit, overload_refused)
 
   weight_line : WeightLine shown reading
-  weight_line = record { says = field_is number load address reading 1; tells = by_overload reading.overload refl }
-    where
-      by_overload : (over : Bool) → reading.overload ≡ over → Tells shown reading
-      by_overload true over = over_tells over
-      by_overload false off = off_tells off
+  weight_line = grind (arith, common_steps, field_is, off_tells, over_tells)
 
 pub weight_lines_tell : WeightLinesTell
 unfolding written_line
 weight_lines_tell number load address reading room good =
-    let made = line_of number (entry_as.Weight load address reading) in
+    let made = line_of number (Some (entry_as.Weight load address reading)) in
     let verdict = sym (verdict_of_lem _ made room) ∙ good in
     let within = not-false _ (test_passed (not (in_range reading)) _ _ verdict) in
     subst (λ (one : List ℕ). WeightLine one reading) (sym (rw verdict (take-append_seam made (drop (length made) room)))) (weight_line number load address reading within)
 
 -- a weight that is heard lies within its ranges
-heard_within : (family : Family) (heard : Heard) (load : Load) (address : Address) (reading : Reading) → entry_heard family heard ≡ entry_as.Weight load address reading
+heard_within : (family : Family) (heard : Heard) (load : Load) (address : Address) (reading : Reading) → entry_heard family heard ≡ Some (entry_as.Weight load address reading)
     → in_range reading ≡ true
 unfolding entry_heard
-heard_within family nothing load address reading e = let clash : ◌≡◌ {A = ℕ} 0 1 = cc in absurd (omega arith)
-heard_within family (frame wire kept body) load address reading e = (subst Sound e (body_sound family body (read_message Reply family body) refl)).1
-heard_within family (refused why wire kept) load address reading e = let clash : ◌≡◌ {A = ℕ} 0 1 = cc in absurd (omega arith)
+heard_within family heard load address reading e = grind (arith, common_steps, body_sound)
 
 pub heard_lines_tell : HeardLinesTell
 heard_lines_tell family heard load address reading e number =
@@ -299,17 +230,32 @@ heard_lines_tell family heard load address reading e number =
 not_weight : (word : List ℕ) → 7 ≤ length word → word ≡ spelt "weight" → ⊥
 not_weight word long is = omega (arith, ap length is)
 
+-- the fields of the other lines
+abbrev message_fields : Address → ℕ → List (List ℕ)
+message_fields address code = spelt "message" ∷ address_text address ∷ hex_byte code ∷ []
+
+abbrev refused_fields : ℕ → List (List ℕ)
+refused_fields why = spelt "refused" ∷ decimal why ∷ []
+
+abbrev total_fields : ℕ → ℕ → ℕ → List (List ℕ)
+total_fields total weights refused = decimal total ∷ spelt "weights" ∷ decimal weights ∷ spelt "refused" ∷ decimal refused ∷ []
+
+message_whole : (number : ℕ) (address : Address) (code : ℕ) → AllWhole (decimal number ∷ message_fields address code)
+message_whole number address code = grind (arith, common_steps, decimal_whole)
+
+refused_whole : (number why : ℕ) → AllWhole (decimal number ∷ refused_fields why)
+refused_whole number why = grind (arith, common_steps, decimal_whole)
+
+total_whole : (total weights refused : ℕ) → AllWhole (spelt "total" ∷ total_fields total weights refused)
+total_whole total weights refused = grind (arith, common_steps, decimal_whole)
+
 pub only_weights_say_weight : OnlyWeightsSayWeight
-only_weights_say_weight number entry_as.Nothing says = absurd (omega (arith, ap length (sym (none_behind 1) ∙ says)))
-only_weights_say_weight number (entry_as.Weight load address reading) says = record { load = load; address = address; reading = reading; is = refl }
-only_weights_say_weight number (entry_as.Message address code) says =
-    let message = field_of 1 (decimal number) (spelt "message" ∷ address_text address ∷ hex_byte code ∷ [])
-    (decimal_whole number, ((refl, (refl, (refl, (refl, (refl, (refl, (refl, tt))))))), (address_whole address, (digits_whole 16 2 code, tt)))) in
-    absurd (not_weight (spelt "message") (omega arith) (sym message ∙ says))
-only_weights_say_weight number (entry_as.Refused why) says =
-    let refusal = field_of 1 (decimal number) (spelt "refused" ∷ decimal (number_of why) ∷ [])
-    (decimal_whole number, ((refl, (refl, (refl, (refl, (refl, (refl, (refl, tt))))))), (decimal_whole (number_of why), tt))) in
-    absurd (not_weight (spelt "refused") (omega arith) (sym refusal ∙ says))
+only_weights_say_weight number None says = absurd (omega (arith, ap length (sym (none_behind 1) ∙ says)))
+only_weights_say_weight number (Some (entry_as.Weight load address reading)) says = grind (arith, common_steps)
+only_weights_say_weight number (Some (entry_as.Message address code)) says =
+    absurd (not_weight (spelt "message") (omega arith) (sym (field_of 1 (decimal number) (message_fields address code) (message_whole number address code)) ∙ says))
+only_weights_say_weight number (Some (entry_as.Refused why)) says =
+    absurd (not_weight (spelt "refused") (omega arith) (sym (field_of 1 (decimal number) (refused_fields (number_of why)) (refused_whole number (number_of why))) ∙ says))
 
 -- a number has a digit, and `weight` has none
 number_shown_lem : (number : ℕ) → any_digit (decimal number) ≡ true
@@ -323,17 +269,5 @@ number_shown_lem number = by_test (ltb number 10) refl
 pub total_says_no_weight : TotalSaysNoWeight
 unfolding any_digit
 total_says_no_weight total weights refusals says =
-    let counted = field_of 1 (spelt "total") (decimal total ∷ spelt "weights" ∷ decimal weights ∷ spelt "refused" ∷ decimal refusals ∷ []) (
-      (refl, (refl, (refl, (refl, (refl, tt))))),
-      (
-        decimal_whole total,
-        (
-          (refl, (refl, (refl, (refl, (refl, (refl, (refl, tt))))))),
-          (
-            decimal_whole weights,
-            ((refl, (refl, (refl, (refl, (refl, (refl, (refl, tt))))))), (decimal_whole refusals, tt)),
-          ),
-        ),
-      ),
-    ) in
+    let counted = field_of 1 (spelt "total") (total_fields total weights refusals) (total_whole total weights refusals) in
     absurd (true≢false (sym (number_shown_lem total) ∙ ap any_digit (sym counted ∙ says)))

@@ -1,13 +1,11 @@
 -- 01, "Weight" and "Judged examples", as they stood before 02's request 4: a reading had no family, a weight line no last field, and an overload refused
 -- nothing. This page keeps those definitions, so that the promises of today can be set beside them (Families).
-use Rattle.std.specs.Prelude.{ℕ, ◌+◌, ◌*◌, ◌/◌, ◌%◌, ◌-◌, ◌^◌, Bool, cond, ◌&&◌, List, [], ◌∷◌, leb}
+use Rattle.std.specs.Prelude.{ℕ, ◌+◌, ◌*◌, ◌/◌, ◌%◌, ◌-◌, ◌^◌, Bool, cond, ◌&&◌, List, [], ◌∷◌, leb, Result, Ok, Err, ℤ}
 use Rattle.refusal.specs.declared.Refusal.{Refusal}
 use Rattle.refusal.specs.declared.Refusal.TheVariants.{FieldOutside}
 use Rattle.body.specs.declared.addresses.Address.{Address}
 use Rattle.codes.specs.declared.table.Load.{Load}
 use Rattle.weight.specs.declared.Reading.{Reading}
-use Rattle.weight.specs.declared.Value.{Value}
-use Rattle.weight.specs.declared.Value.TheVariants.{Tenths, Refused}
 use Rattle.weight.specs.Digits.{all_decimal, digits_of, pair_of}
 use Rattle.weight.specs.Status.{minus, sixth, fifth, settled, overload, bit_of, marked, on_at}
 use Rattle.weight.specs.Tenths.{signed, less}
@@ -76,11 +74,11 @@ packed_before reading =
     (none FieldOutside)
 
 -- "the digits times 10^(7 − point), negated for minus"; "Gross less net is a signed difference"
-abbrev pub value_before : ReadingBefore → Value
-value_before reading = cond (in_range_before reading) (Tenths (signed reading.minus (reading.number * 10 ^ (7 - reading.point)))) (Refused FieldOutside)
+abbrev pub value_before : ReadingBefore → Result ℤ Refusal
+value_before reading = cond (in_range_before reading) (Ok (signed reading.minus (reading.number * 10 ^ (7 - reading.point)))) (Err FieldOutside)
 
-abbrev pub difference_before : ReadingBefore → ReadingBefore → Value
-difference_before gross net = cond (in_range_before gross && in_range_before net) (less (value_before gross) (value_before net)) (Refused FieldOutside)
+abbrev pub difference_before : ReadingBefore → ReadingBefore → Result ℤ Refusal
+difference_before gross net = cond (in_range_before gross && in_range_before net) (less (value_before gross) (value_before net)) (Err FieldOutside)
 
 -- "(event; address, or `0:` and the serial, in decimal; sign bit as + or -; digits; point; settled; overload)"
 -- with a text for the digits, which are six digits here and may be hyphens since (Overload)

@@ -1,13 +1,12 @@
 -- 02, request 2, "Walk a whole capture without feeding bytes": what all steps of a walk tell together, over any block and from any place of it.
 -- It asks nothing of a block: its numbers need not be bytes, and its length is any.
-use Rattle.std.specs.Prelude.{ℕ, ◌+◌, ◌-◌, ◌%◌, ◌^◌, ◌≤◌, ◌<◌, ◌≡◌, cond, List, [], ◌∷◌, ◌++◌, ◌⊎◌, leb, length, drop, get_or}
+use Rattle.std.specs.Prelude.{ℕ, ◌+◌, ◌-◌, ◌%◌, ◌^◌, ◌≤◌, ◌<◌, ◌≡◌, cond, List, [], ◌∷◌, ◌++◌, ◌⊎◌, leb, length, drop, get_or, Some}
 use Rattle.std.proofs.Math.Seq.{slice}
 use Rattle.refusal.specs.Numbers.{number_of}
 use Rattle.body.specs.Body.{longest}
 use Rattle.line.specs.declared.places.Event.{Event}
 use Rattle.line.specs.Listener.{State, seeking, delimited, Heard, nothing, frame, refused, fresh, hear, events, after}
 use Rattle.line.specs.Readers.{heard_as, fresh_reader}
-use Rattle.capture_walker.specs.declared.stepping.Next.TheVariants as next_as
 use Rattle.capture_walker.specs.Walking.{start_at, StepTaken, said_end, step_from}
 use Rattle.demands.specs.Reading.{heard_by}
 use Rattle.demands.specs.Wire.{Sent, AllShared, wire_of, heard_of}
@@ -16,7 +15,7 @@ use Rattle.demands.specs.Wire.{Sent, AllShared, wire_of, heard_of}
 
 -- a step that met an event, the place behind it, and the lent bytes then (`said_end` is one that said "end")
 abbrev pub met : Event → ℕ → List ℕ → StepTaken
-met event behind body = record { answer = record { next = next_as.Event event; place = behind }; body = body }
+met event behind body = record { answer = record { next = Some event; place = behind }; body = body }
 
 -- what the caller lends with the step from a place: other bytes each time if he likes, with anything in them
 abbrev pub Lends : (ℕ → List ℕ) → Type 0
@@ -26,7 +25,7 @@ Lends lending = (place : ℕ) → length (lending place) ≡ longest
 pub data Walk (block : List ℕ) (lending : ℕ → List ℕ) : ℕ → List Heard → ℕ → Type 0 where
   ends : {place end : ℕ} {body : List ℕ} → step_from block place (lending place) ≡ said_end end body → Walk block lending place [] end
   goes : {place behind end : ℕ} {event : Event} {body : List ℕ} {later : List Heard} → step_from block place (lending place) ≡ met event behind body
-      → Walk block lending behind later end → Walk block lending place (heard_as event body ∷ later) end
+      → Walk block lending behind later end → Walk block lending place (heard_as (Some event) body ∷ later) end
 
 -- every step from a place says "end", stays there and changes nothing lent: so do all later ones
 abbrev pub EndsForEver : List ℕ → ℕ → Type 0
@@ -94,7 +93,7 @@ pub record MovedOn (block : List ℕ) (place : ℕ) (heard : Heard) (behind : �
 
 -- the walk ends: each step moves on, or ends it
 pub record MovesOrEnds (block : List ℕ) (place : ℕ) (lent : List ℕ) : Type 0 where
-  pub moves : (event : Event) (behind : ℕ) (body : List ℕ) → step_from block place lent ≡ met event behind body → MovedOn block place (heard_as event body) behind
+  pub moves : (event : Event) (behind : ℕ) (body : List ℕ) → step_from block place lent ≡ met event behind body → MovedOn block place (heard_as (Some event) body) behind
   pub or_ends : (end : ℕ) (body : List ℕ) → step_from block place lent ≡ said_end end body → end ≡ end_from block place
 
 abbrev pub EveryStep : Type 0

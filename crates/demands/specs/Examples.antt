@@ -1,6 +1,6 @@
 -- 01, "Judged examples": E1 to E8 as one table under one claim. The table has the bytes, what a fresh listener hears of them with both counts,
 -- what the bodies say in a role, by a family, and the values of the weights among them. The claim also says that each body's frame is the bytes again.
-use Rattle.std.specs.Prelude.{ℕ, ◌≡◌, true, false, length, replicate, pos, negsuc}
+use Rattle.std.specs.Prelude.{ℕ, ◌≡◌, true, false, length, replicate, pos, negsuc, Result, Ok, Err, ℤ}
 use mathlib.Core.List.{List, [], ◌∷◌, ◌++◌, map, flatten}
 use Rattle.refusal.specs.declared.Refusal.TheVariants.{BodyShort, BodyLong, HeldBroken, CheckWrong, CodeUnknown}
 use Rattle.body.specs.declared.addresses.Address.TheVariants.{Short}
@@ -9,8 +9,6 @@ use Rattle.frame.specs.Stuffing.{framed}
 use Rattle.line.specs.Listener.{Heard, nothing, frame, refused, fresh, events}
 use Rattle.weight.specs.declared.families.Family.{Family}
 use Rattle.weight.specs.declared.families.Family.TheVariants.{Of002}
-use Rattle.weight.specs.declared.Value.{Value}
-use Rattle.weight.specs.declared.Value.TheVariants.{Tenths}
 use Rattle.weight.specs.Families.{family_number}
 use Rattle.weight.specs.Tenths.{value_of}
 use Rattle.codes.specs.declared.table.Role.{Role}
@@ -19,20 +17,20 @@ use Rattle.codes.specs.declared.table.Load.TheVariants.{Net, Gross}
 use Rattle.meaning.specs.declared.meaning.SaidWeight.{SaidWeight}
 use Rattle.meaning.specs.declared.meaning.What.{What}
 use Rattle.meaning.specs.declared.meaning.What.TheVariants as says
-use Rattle.message.specs.declared.reading.Received.{Received}
-use Rattle.message.specs.declared.reading.Received.TheVariants as received_as
 use Rattle.message.specs.Reading.{read_message}
 use Rattle.entries.specs.declared.entries.Entry.{Entry}
-use Rattle.entries.specs.declared.entries.Entry.TheVariants.{Nothing, Weight, Message, Refused}
+use Rattle.entries.specs.declared.entries.Entry.TheVariants as entry_as
 use Rattle.entries.specs.Entries.{entry_of}
+use Rattle.refusal.specs.declared.Refusal.{Refusal}
+use Rattle.message.specs.declared.reading.Message.{Message}
 
 pub record Example : Type 0 where
   pub bytes : List ℕ
   pub heard : List Heard
   pub role : Role
   pub family : Family
-  pub said : List Received
-  pub values : List Value
+  pub said : List (Result Message Refusal)
+  pub values : List (Result ℤ Refusal)
 
 -- the bodies of the frames heard
 abbrev pub body_of_frame : Heard → List (List ℕ)
@@ -44,14 +42,13 @@ abbrev pub bodies_of : List Heard → List (List ℕ)
 bodies_of heard = flatten (map body_of_frame heard)
 
 -- the values of the weights said
-abbrev pub value_in : Entry → List Value
-value_in Nothing = []
-value_in (Weight load address reading) = value_of reading ∷ []
-value_in (Message address code) = []
-value_in (Refused why) = []
+abbrev pub value_in : Entry → List (Result ℤ Refusal)
+value_in (entry_as.Weight load address reading) = value_of reading ∷ []
+value_in (entry_as.Message address code) = []
+value_in (entry_as.Refused why) = []
 
-abbrev pub values_of : List Received → List Value
-values_of said = flatten (map (λ (received : Received). value_in (entry_of received)) said)
+abbrev pub values_of : List (Result Message Refusal) → List (Result ℤ Refusal)
+values_of said = flatten (map (λ (received : Result Message Refusal). value_in (entry_of received)) said)
 
 -- what the definitions make of an example's bytes
 abbrev pub computed : Example → Example
@@ -68,8 +65,8 @@ abbrev pub as_sent : Example → List (List ℕ)
 as_sent example = map (λ (body : List ℕ). example.bytes) (bodies_of example.heard)
 
 -- a message of short address 1 whose data stand from place 2 up to place `to`
-abbrev pub from1 : ℕ → ℕ → What → Received
-from1 code to what = received_as.Message (record { address = Short 1; code = code; from = 2; to = to; what = what })
+abbrev pub from1 : ℕ → ℕ → What → Result Message Refusal
+from1 code to what = Ok (record { address = Short 1; code = code; from = 2; to = to; what = what })
 
 -- body 01, then some zeros, then a check
 abbrev pub zeros : ℕ → ℕ → List ℕ
@@ -104,7 +101,7 @@ examples =
       role = Reply;
       family = Of002;
       said = from1 0xC3 6 (says.Weight (e3 Of002)) ∷ [];
-      values = Tenths (pos 251_000_000) ∷ [];
+      values = Ok (pos 251_000_000) ∷ [];
     }
     ∷ record {
       bytes = 0xFF ∷ 0x01 ∷ 0xC2 ∷ 0x05 ∷ 0x00 ∷ 0x00 ∷ 0x91 ∷ 0x32 ∷ 0xFF ∷ 0xFF ∷ [];
@@ -112,7 +109,7 @@ examples =
       role = Reply;
       family = Of002;
       said = from1 0xC2 6 (says.Weight (e4 Of002)) ∷ [];
-      values = Tenths (negsuc 4_999_999) ∷ [];
+      values = Ok (negsuc 4_999_999) ∷ [];
     }
     ∷ record {
       bytes = 0xFF ∷ 0x01 ∷ 0xA1 ∷ 0xFF ∷ 0xFE ∷ 0x00 ∷ 0x00 ∷ 0x39 ∷ 0xFF ∷ 0xFF ∷ [];
@@ -130,7 +127,7 @@ examples =
       heard = frame 258 255 (zeros 253 0x27) ∷ [];
       role = Reply;
       family = Of002;
-      said = received_as.Refused CodeUnknown ∷ [];
+      said = Err CodeUnknown ∷ [];
       values = [];
     }
     ∷ record { bytes = 0xFF ∷ (one_zero_more ++ (0xFF ∷ 0xFF ∷ [])); heard = refused BodyLong 257 255 ∷ []; role = Reply; family = Of002; said = []; values = [] }

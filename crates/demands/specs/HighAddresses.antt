@@ -1,13 +1,11 @@
 -- 02, request 1: "a short address is 01 to FD .. Refusals: 5 now means a short address outside 01 to FD or a serial too large; on a wire heard from
 -- fresh it can no longer occur." (The terminals at A4 and F0: OlderBridges. The logs: LogsFromBefore.)
-use Rattle.std.specs.Prelude.{ℕ, ◌≡◌, T, length, drop, replicate}
+use Rattle.std.specs.Prelude.{ℕ, ◌≡◌, T, length, drop, replicate, Result, Ok, Err, Some}
 use mathlib.Core.List.{List, [], ◌∷◌, ◌++◌, map, flatten, Memᴰ}
 use Rattle.std.proofs.Math.Pow.{are_bytes}
 use Rattle.refusal.specs.declared.Refusal.{Refusal}
 use Rattle.refusal.specs.declared.Refusal.TheVariants.{AddressIllegal}
-use Rattle.refusal.specs.declared.Verdict.{Verdict}
-use Rattle.refusal.specs.declared.Verdict.TheVariants.{Good, Refused}
-use Rattle.refusal.specs.Numbers.{number_of}
+use Rattle.refusal.specs.Numbers.{number_of, verdict_of}
 use Rattle.body.specs.declared.addresses.Address.{Address}
 use Rattle.body.specs.declared.addresses.Address.TheVariants.{Short, Serial}
 use Rattle.body.specs.Body.{longest, judged_lent}
@@ -21,7 +19,6 @@ use Rattle.line.specs.Readers.{view, fed}
 use Rattle.weight.specs.declared.families.Family.{Family}
 use Rattle.codes.specs.declared.table.Role.{Role}
 use Rattle.codes.specs.declared.table.Role.TheVariants.{Reply}
-use Rattle.message.specs.declared.reading.Received.TheVariants as received_as
 use Rattle.message.specs.Reading.{read_message}
 use Rattle.records.specs.declared.records.Record.{Record}
 use Rattle.records.specs.Records.{met_kind}
@@ -54,7 +51,7 @@ pub record HeardWithoutFive (blocks : List (List ℕ)) : Type 0 where
 -- refusal 5, and their listing no line `N refused 5`
 pub record WrittenWithoutFive (heard : List Heard) : Type 0 where
   pub noted : (time : ℕ → ℕ) (role : Role) (family : Family) (item : Record) → Memᴰ item (records_heard time role family heard) → item.kind ≡ met_kind → item.status ≡ 5 → ⊥
-  pub listed : (family : Family) (why : Refusal) → Memᴰ (entry_as.Refused why) (map (entry_heard family) heard) → number_of why ≡ 5 → ⊥
+  pub listed : (family : Family) (why : Refusal) → Memᴰ (Some (entry_as.Refused why)) (map (entry_heard family) heard) → number_of why ≡ 5 → ⊥
 
 pub record WithoutFive (blocks : List (List ℕ)) : Type 0 where
   pub heard : HeardWithoutFive blocks
@@ -79,8 +76,8 @@ abbrev pub inside_empty : Reader
 inside_empty = record { place = record { phase = Inside; wire = record { 0 = 0 }; kept = record { 0 = 0 } }; body = replicate longest 0 }
 
 -- the verdict of writing a frame from an address, with room enough
-abbrev pub verdict_from : Address → Verdict
-verdict_from address = (written_frame address 0xC3 [] (replicate 20 0)).answer.verdict
+abbrev pub verdict_from : Address → Result (Unit {0}) Refusal
+verdict_from address = verdict_of (written_frame address 0xC3 [] (replicate 20 0)).answer
 
 -- a state handed in, a lent body and a writer's address can still earn it; the ends of the range do not. The frame rule's bytes of such a body give
 -- a fresh listener no event.
@@ -88,8 +85,8 @@ pub record FiveEarned : Type 0 where
   pub number : number_of AddressIllegal ≡ 5
   pub handed_in : heard_by inside_empty (stuffed from_fe ++ (0xFF ∷ 0xFF ∷ [])) ≡ refused AddressIllegal 5 3 ∷ []
   pub handed_in_ff : heard_by inside_empty (stuffed from_ff ++ (0xFF ∷ 0xFF ∷ [])) ≡ refused AddressIllegal 6 3 ∷ []
-  pub lent : map judged_lent (from_fe ∷ from_ff ∷ []) ≡ Refused AddressIllegal ∷ Refused AddressIllegal ∷ []
-  pub message : (family : Family) → map (read_message Reply family) (from_fe ∷ from_ff ∷ []) ≡ received_as.Refused AddressIllegal ∷ received_as.Refused AddressIllegal ∷ []
-  pub writing : map verdict_from (Short 0 ∷ Short 0xFE ∷ Short 0xFF ∷ Serial 16_777_216 ∷ []) ≡ replicate 4 (Refused AddressIllegal)
-  pub accepted : map verdict_from (Short 0x01 ∷ Short 0xFD ∷ Serial 16_777_215 ∷ []) ≡ replicate 3 Good
+  pub lent : map judged_lent (from_fe ∷ from_ff ∷ []) ≡ Err AddressIllegal ∷ Err AddressIllegal ∷ []
+  pub message : (family : Family) → map (read_message Reply family) (from_fe ∷ from_ff ∷ []) ≡ Err AddressIllegal ∷ Err AddressIllegal ∷ []
+  pub writing : map verdict_from (Short 0 ∷ Short 0xFE ∷ Short 0xFF ∷ Serial 16_777_216 ∷ []) ≡ replicate 4 (Err AddressIllegal)
+  pub accepted : map verdict_from (Short 0x01 ∷ Short 0xFD ∷ Serial 16_777_215 ∷ []) ≡ replicate 3 (Ok tt)
   pub no_event : map (events fresh) (framed from_fe ∷ framed from_ff ∷ []) ≡ [] ∷ [] ∷ []

@@ -1,6 +1,6 @@
 -- 01, "Log records": "Kind 1 is a gross reply, 2 a net reply". Nothing that was heard is lost: each reply C2 or C3 with good digits stands in the
 -- log as its weighing and in the listing as its weight. (That no other does: Weighings. That refusals do: Noted.)
-use Rattle.std.specs.Prelude.{ℕ, ◌+◌, ◌<◌, ◌≡◌, true, false, List, ◌∷◌, ◌++◌, length}
+use Rattle.std.specs.Prelude.{ℕ, ◌+◌, ◌<◌, ◌≡◌, true, false, List, ◌∷◌, ◌++◌, length, Ok, Some}
 use Rattle.body.specs.declared.addresses.Address.{Address}
 use Rattle.body.specs.Addresses.{legal}
 use Rattle.body.specs.Body.{body_of}
@@ -9,7 +9,6 @@ use Rattle.weight.specs.declared.families.Family.{Family}
 use Rattle.weight.specs.declared.families.Family.TheVariants.{Of002}
 use Rattle.weight.specs.declared.FourBytes.{FourBytes}
 use Rattle.weight.specs.declared.Reading.{Reading}
-use Rattle.weight.specs.declared.Packed.TheVariants as packed_as
 use Rattle.weight.specs.Digits.{all_decimal}
 use Rattle.weight.specs.Families.{family_number}
 use Rattle.weight.specs.Status.{sixth, marked}
@@ -17,7 +16,6 @@ use Rattle.weight.specs.Bytes.{in_order, packed_of}
 use Rattle.codes.specs.declared.table.Role.{Role}
 use Rattle.codes.specs.declared.table.Role.TheVariants.{Reply}
 use Rattle.codes.specs.declared.table.Load.{Load}
-use Rattle.weighing_log.specs.declared.hearing.Noted.TheVariants as noted_as
 use Rattle.weighing_log.specs.Hearing.{weighing, noted_heard}
 use Rattle.weighing_log.specs.Heard.{code_of}
 use Rattle.entries.specs.declared.entries.Entry.TheVariants as entry_as
@@ -39,11 +37,11 @@ reply_frame wire kept address load four = frame wire kept (body_of address (code
 -- in the listing it is a weight from its address, of the reading that packs to its four bytes
 pub record ListedWeight (family : Family) (heard : Heard) (address : Address) (load : Load) (four : FourBytes) : Type 0 where
   pub reading : Reading
-  pub packed : packed_of reading ≡ packed_as.Bytes four
-  pub listed : entry_heard family heard ≡ entry_as.Weight load address reading
+  pub packed : packed_of reading ≡ Ok four
+  pub listed : entry_heard family heard ≡ Some (entry_as.Weight load address reading)
 
 pub record KeptWeight (family : Family) (heard : Heard) (address : Address) (load : Load) (four : FourBytes) : Type 0 where
-  pub noted : (time : ℕ) → noted_heard time Reply family heard ≡ noted_as.Record (weighing time address load four)
+  pub noted : (time : ℕ) → noted_heard time Reply family heard ≡ Ok (Some (weighing time address load four))
   pub listed : ListedWeight family heard address load four
 
 abbrev pub WeightsKept : Type 0

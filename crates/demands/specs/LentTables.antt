@@ -1,10 +1,8 @@
 -- 02, request 6: what is lent, and in which order it is refused: "31 first, a lent cell whose sum, sign aside, is beyond its count times
 -- 9,999,990,000,000; 10 and 11 as the log gives them; 23 when a count would pass 65,535; in all of these the table stays as before that record."
-use Rattle.std.specs.Prelude.{ℕ, suc, ◌+◌, ◌*◌, ◌^◌, ◌≤◌, ◌<◌, ◌≡◌, true, false, List, [], ◌∷◌, ◌++◌, nat_abs, ◌+ℤ◌, length, take}
+use Rattle.std.specs.Prelude.{ℕ, suc, ◌+◌, ◌*◌, ◌^◌, ◌≤◌, ◌<◌, ◌≡◌, true, false, List, [], ◌∷◌, ◌++◌, nat_abs, ◌+ℤ◌, length, take, Ok, Err}
 use Rattle.refusal.specs.declared.Refusal.TheVariants.{RecordBroken, CountFull, SumBeyond}
-use Rattle.refusal.specs.declared.Verdict.TheVariants.{Good, Refused}
 use Rattle.records.specs.declared.records.Record.{Record}
-use Rattle.records.specs.declared.reading.RecordRead.TheVariants as record_read_as
 use Rattle.records.specs.Layout.{bytes_of_record}
 use Rattle.records.specs.Records.{good}
 use Rattle.records.specs.Reading.{read_record}
@@ -13,7 +11,6 @@ use Rattle.hour_cell.specs.declared.cells.Cell.{Cell}
 use Rattle.hour_table.specs.declared.filled.Filled.{Filled}
 use Rattle.hour_table.specs.Tables.{Table, empty_table, sound_table}
 use Rattle.hour_table.specs.Filling.{stays, entered, followed, filled_from}
-use Rattle.hour_mean.specs.declared.Mean.TheVariants as mean_as
 use Rattle.hour_mean.specs.Means.{mean_of}
 use Rattle.demands.specs.Tables.{settled_gross, refused_record, falls, weight_in, refused_in, how_many, sum_of, cell_of, went_in, GoneIn, over_table}
 
@@ -68,7 +65,7 @@ NoCellBeyond =
 -- what is filled from a sound table is sound and not refused by 31, and we start with a sound one: so 31 is met on lent tables only
 pub record KeptSound (filled : Filled) : Type 0 where
   pub sound : sound_table filled.table ≡ true
-  pub verdict : filled.verdict ≡ Refused SumBeyond → ⊥
+  pub verdict : filled.verdict ≡ Err SumBeyond → ⊥
 
 pub record StaysSound : Type 0 where
   pub empty : sound_table empty_table ≡ true
@@ -78,7 +75,7 @@ pub record StaysSound : Type 0 where
 -- no cell of a sound table has a mean that is refused
 abbrev pub MeansOfSound : Type 0
 MeansOfSound =
-    (table : Table) (weekday hour : ℕ) → sound_table table ≡ true → mean_of (cell_of table weekday hour) ≡ mean_as.Refused SumBeyond → ⊥
+    (table : Table) (weekday hour : ℕ) → sound_table table ≡ true → mean_of (cell_of table weekday hour) ≡ Err SumBeyond → ⊥
 
 -- ---- all cells of a lent table together: what they held, and all settled gross weights without overload, and all refused records, that went in
 
@@ -112,12 +109,12 @@ LentGoesInWhole =
 abbrev pub StopsOnlyFull : Type 0
 StopsOnlyFull =
     (log : List ℕ) (table : Table) → sound_table table ≡ true → (filled_from log table).records < length (whole_log log).records
-    → (filled_from log table).verdict ≡ Refused CountFull
+    → (filled_from log table).verdict ≡ Err CountFull
 
 -- and that record would have made a count pass
 abbrev pub FullOnlyThere : Type 0
 FullOnlyThere =
-    (log : List ℕ) (table : Table) → SevenByTwentyFour table → (filled_from log table).verdict ≡ Refused CountFull
+    (log : List ℕ) (table : Table) → SevenByTwentyFour table → (filled_from log table).verdict ≡ Err CountFull
     → Passes table (take (suc (filled_from log table).records) (whole_log log).records)
 
 -- no count passes
@@ -148,7 +145,7 @@ LogOfOne = (item : Record) (table : Table) → good item ≡ true → item.time 
 -- filling a log is entering its first record and filling the rest; nothing behind a refusal
 abbrev pub RecordByRecord : Type 0
 RecordByRecord =
-    (bytes log : List ℕ) (item : Record) (table : Table) → read_record bytes ≡ record_read_as.Record item
+    (bytes log : List ℕ) (item : Record) (table : Table) → read_record bytes ≡ Ok item
     → filled_from (bytes ++ log) table ≡ followed (entered item table).verdict (entered item table) (filled_from log (entered item table).table)
 
 -- "in all of these the table stays as before that record": it is the table that the n records before it make by themselves
@@ -156,4 +153,4 @@ abbrev pub StaysAsBefore : Type 0
 StaysAsBefore =
     (log : List ℕ) (table : Table) → sound_table table ≡ true
     → filled_from (take (20 * (filled_from log table).records) log) table
-    ≡ record { table = (filled_from log table).table; records = (filled_from log table).records; verdict = Good }
+    ≡ record { table = (filled_from log table).table; records = (filled_from log table).records; verdict = Ok tt }

@@ -1,8 +1,7 @@
 -- 01, "Log records": "Each record has 20 bytes; there is no header." "With no bytes left the log ends; an empty log is whole."
-use Rattle.std.specs.Prelude.{ℕ, ◌^◌, ◌<◌, ◌≡◌, T}
+use Rattle.std.specs.Prelude.{ℕ, ◌^◌, ◌<◌, ◌≡◌, T, Ok}
 use mathlib.Core.List.{List, [], ◌∷◌, map, flatten}
 use Rattle.std.proofs.Math.Pow.{are_bytes}
-use Rattle.refusal.specs.declared.Verdict.TheVariants.{Good}
 use Rattle.line.specs.Listener.{Heard}
 use Rattle.body.specs.declared.addresses.Address.TheVariants.{Short}
 use Rattle.weight.specs.declared.families.Family.{Family}
@@ -17,7 +16,7 @@ use Rattle.demands.specs.Weighings.{records_heard}
 
 -- a whole log is the bytes of its records, one behind the other, and nothing else
 abbrev pub WholeLogAgain : Type 0
-WholeLogAgain = (log : List ℕ) → T (are_bytes log) → (whole_log log).ending ≡ Good → bytes_of_log (whole_log log).records ≡ log
+WholeLogAgain = (log : List ℕ) → T (are_bytes log) → (whole_log log).ending ≡ Ok tt → bytes_of_log (whole_log log).records ≡ log
 
 -- who steps from its front until there is no further step meets all its records, and nothing else; of any bytes, and of a log that breaks too
 pub record SteppedWhole (log : List ℕ) : Type 0 where
@@ -31,7 +30,7 @@ EveryLogStepped = (log : List ℕ) → SteppedWhole log
 abbrev pub LineLogWhole : Type 0
 LineLogWhole =
     (time : ℕ → ℕ) → ((number : ℕ) → time number < 2 ^ 64) → (role : Role) (family : Family) (heard : List Heard)
-    → whole_log (bytes_of_log (records_heard time role family heard)) ≡ record { records = records_heard time role family heard; ending = Good }
+    → whole_log (bytes_of_log (records_heard time role family heard)) ≡ record { records = records_heard time role family heard; ending = Ok tt }
 
 -- the events of the judged examples, one after the other, read as replies of 002 and noted at the times 1, 2, 3 ... E1 and E2 are requests; as replies
 -- their length is wrong (7). E3 and E4 are weighings. E5 makes no record. The first body of E8 has no code of the table (6).

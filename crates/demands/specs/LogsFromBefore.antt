@@ -1,7 +1,6 @@
 -- 02, request 1: "Log records of kinds 1 and 2 follow." Request 4: "Log records use byte 17 for the family .. 0 is an old record whose bits stay
 -- plain." So every log that was good stays good with the same records. This page keeps the rule as 01 had it, to say so. Kind 3 has no address and did not move: a log may hold a refusal 5 that was met when 9F was the limit.
-use Rattle.std.specs.Prelude.{ℕ, ◌^◌, ◌≤◌, ◌<◌, ◌≡◌, Bool, true, false, cond, ◌&&◌, List, [], ◌∷◌, ◌++◌, map, ◌⊎◌, leb, eqb, length}
-use Rattle.refusal.specs.declared.Verdict.TheVariants.{Good}
+use Rattle.std.specs.Prelude.{ℕ, ◌^◌, ◌≤◌, ◌<◌, ◌≡◌, Bool, true, false, cond, ◌&&◌, List, [], ◌∷◌, ◌++◌, map, ◌⊎◌, leb, eqb, length, Ok}
 use Rattle.body.specs.declared.addresses.Address.TheVariants.{Short}
 use Rattle.body.specs.Addresses.{highest_short}
 use Rattle.weight.specs.declared.families.Family.TheVariants.{Plain}
@@ -46,7 +45,7 @@ pub data WasGood (highest : ℕ) : List ℕ → List Record → Type 0 where
       → good_up_to highest (record_in bytes) ≡ true → WasGood highest log items → WasGood highest (bytes ++ log) (record_in bytes ∷ items)
 
 abbrev pub StayGoodUnder : ℕ → Type 0
-StayGoodUnder highest = (log : List ℕ) (items : List Record) → WasGood highest log items → whole_log log ≡ record { records = items; ending = Good }
+StayGoodUnder highest = (log : List ℕ) (items : List Record) → WasGood highest log items → whole_log log ≡ record { records = items; ending = Ok tt }
 
 -- under 01's limit and under request 1's
 abbrev pub StaysGood : Type 0
@@ -59,12 +58,12 @@ EachBefore highest (item ∷ items) = (good_up_to highest item ≡ true) × Each
 
 abbrev pub WereGood : Type 0
 WereGood =
-    (highest : ℕ) (log : List ℕ) → (whole_log log).ending ≡ Good → EachBefore highest (whole_log log).records → WasGood highest log (whole_log log).records
+    (highest : ℕ) (log : List ℕ) → (whole_log log).ending ≡ Ok tt → EachBefore highest (whole_log log).records → WasGood highest log (whole_log log).records
 
 -- a log of one refusal 5 was good and is good (among other records: StaysGood)
 pub record FiveKept (time : ℕ) : Type 0 where
   pub before : WasGood highest_before (bytes_of_record (met_on_line time 5)) (met_on_line time 5 ∷ [])
-  pub now : whole_log (bytes_of_record (met_on_line time 5)) ≡ record { records = met_on_line time 5 ∷ []; ending = Good }
+  pub now : whole_log (bytes_of_record (met_on_line time 5)) ≡ record { records = met_on_line time 5 ∷ []; ending = Ok tt }
 
 abbrev pub FiveStaysGood : Type 0
 FiveStaysGood = (time : ℕ) → time < 2 ^ 64 → FiveKept time

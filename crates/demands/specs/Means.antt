@@ -1,11 +1,10 @@
 -- 02, request 6: "The mean is a fraction in lowest terms with a positive lower number; sum 0 gives 0 over 1; a cell with no weights answers "no
 -- readings" and never a zero."
-use Rattle.std.specs.Prelude.{ℕ, ◌*◌, ◌≤◌, ◌<◌, ◌≡◌, ℤ, pos, nat_abs, ◌*ℤ◌}
+use Rattle.std.specs.Prelude.{ℕ, ◌*◌, ◌≤◌, ◌<◌, ◌≡◌, ℤ, pos, nat_abs, ◌*ℤ◌, Ok, Err, Some, None}
 use Rattle.std.specs.Int.{◌∣◌}
 use Rattle.refusal.specs.declared.Refusal.TheVariants.{SumBeyond}
 use Rattle.hour_cell.specs.declared.cells.Cell.{Cell}
 use Rattle.hour_mean.specs.declared.Fraction.{Fraction}
-use Rattle.hour_mean.specs.declared.Mean.TheVariants as mean_as
 use Rattle.hour_mean.specs.Means.{mean_of}
 
 -- a fraction in lowest terms that is a sum over a count: multiplied across, in whole numbers
@@ -22,7 +21,7 @@ NotBeyond cell = nat_abs cell.sum ≤ cell.weights * 9999990000000
 -- a cell with weights has the mean of its sum and its count, in lowest terms
 pub record HasMean (cell : Cell) : Type 0 where
   pub fraction : Fraction
-  pub answered : mean_of cell ≡ mean_as.Fraction fraction
+  pub answered : mean_of cell ≡ Ok (Some fraction)
   pub lowest : LowestTerms cell.sum cell.weights fraction
 
 abbrev pub WeightsHaveAMean : Type 0
@@ -32,15 +31,15 @@ WeightsHaveAMean = (cell : Cell) → NotBeyond cell → 0 < cell.weights → Has
 abbrev pub OnlyFraction : Type 0
 OnlyFraction =
     (cell : Cell) (fraction : Fraction) → NotBeyond cell → 0 < cell.weights → LowestTerms cell.sum cell.weights fraction
-    → mean_of cell ≡ mean_as.Fraction fraction
+    → mean_of cell ≡ Ok (Some fraction)
 
 -- "sum 0 gives 0 over 1"
 abbrev pub ZeroOverOne : Type 0
-ZeroOverOne = (cell : Cell) → 0 < cell.weights → cell.sum ≡ pos 0 → mean_of cell ≡ mean_as.Fraction (record { upper = pos 0; lower = pos 1 })
+ZeroOverOne = (cell : Cell) → 0 < cell.weights → cell.sum ≡ pos 0 → mean_of cell ≡ Ok (Some (record { upper = pos 0; lower = pos 1 }))
 
 -- "no readings", and never a zero, for a cell with no weights; a sum without weights is 31
 abbrev pub NoWeightsNoReadings : Type 0
-NoWeightsNoReadings = (cell : Cell) → cell.weights ≡ 0 → cell.sum ≡ pos 0 → mean_of cell ≡ mean_as.NoReadings
+NoWeightsNoReadings = (cell : Cell) → cell.weights ≡ 0 → cell.sum ≡ pos 0 → mean_of cell ≡ Ok None
 
 abbrev pub BeyondIsRefused : Type 0
-BeyondIsRefused = (cell : Cell) → (NotBeyond cell → ⊥) → mean_of cell ≡ mean_as.Refused SumBeyond
+BeyondIsRefused = (cell : Cell) → (NotBeyond cell → ⊥) → mean_of cell ≡ Err SumBeyond

@@ -1,27 +1,25 @@
 -- "A weight that wasn't heard must never look like a weight of nothing." 01, "Log records": "Kind 3 is a refusal met on the line: status 1 to
 -- 8". So each refusal of a line, and each refusal of a body's message, has its record, with its number and no weight. None is lost.
 -- "Judged examples": "refusals 1 to 8 all as the third line". None is lost in the listing either.
-use Rattle.std.specs.Prelude.{ℕ, ◌≡◌, List}
+use Rattle.std.specs.Prelude.{ℕ, ◌≡◌, List, Ok, Err, Some}
 use Rattle.refusal.specs.declared.Refusal.{Refusal}
 use Rattle.refusal.specs.Numbers.{number_of}
 use Rattle.line.specs.Listener.{Heard, Listener, frame, refused, hear}
 use Rattle.weight.specs.declared.families.Family.{Family}
 use Rattle.codes.specs.declared.table.Role.{Role}
 use Rattle.codes.specs.declared.table.Role.TheVariants.{Reply}
-use Rattle.message.specs.declared.reading.Received.TheVariants as received_as
 use Rattle.message.specs.Reading.{read_message}
-use Rattle.weighing_log.specs.declared.hearing.Noted.TheVariants as noted_as
 use Rattle.weighing_log.specs.Hearing.{met_on_line, noted_heard}
 use Rattle.entries.specs.declared.entries.Entry.TheVariants as entry_as
 use Rattle.entries.specs.Entries.{entry_heard}
 
 -- an event in which a refusal was met is noted as its record
 abbrev pub IsNoted : ℕ → Role → Family → Heard → Refusal → Type 0
-IsNoted time role family heard why = noted_heard time role family heard ≡ noted_as.Record (met_on_line time (number_of why))
+IsNoted time role family heard why = noted_heard time role family heard ≡ Ok (Some (met_on_line time (number_of why)))
 
 -- and listed as refused, with that refusal
 abbrev pub IsListed : Family → Heard → Refusal → Type 0
-IsListed family heard why = entry_heard family heard ≡ entry_as.Refused why
+IsListed family heard why = entry_heard family heard ≡ Some (entry_as.Refused why)
 
 -- each refusal that a byte on the line gives, in whatever state, role and family
 abbrev pub LineRefusalsNoted : Type 0
@@ -37,10 +35,10 @@ LineRefusalsListed =
 -- each refusal that a frame's body earns, in either role, by each family
 abbrev pub MessageRefusalsNoted : Type 0
 MessageRefusalsNoted =
-    (time : ℕ) (role : Role) (family : Family) (wire kept : ℕ) (body : List ℕ) (why : Refusal) → read_message role family body ≡ received_as.Refused why
+    (time : ℕ) (role : Role) (family : Family) (wire kept : ℕ) (body : List ℕ) (why : Refusal) → read_message role family body ≡ Err why
     → IsNoted time role family (frame wire kept body) why
 
 -- "A capture is read as replies throughout."
 abbrev pub MessageRefusalsListed : Type 0
 MessageRefusalsListed =
-    (family : Family) (wire kept : ℕ) (body : List ℕ) (why : Refusal) → read_message Reply family body ≡ received_as.Refused why → IsListed family (frame wire kept body) why
+    (family : Family) (wire kept : ℕ) (body : List ℕ) (why : Refusal) → read_message Reply family body ≡ Err why → IsListed family (frame wire kept body) why

@@ -1,6 +1,6 @@
 -- 02, request 1: "Two quays run terminals from documents 000 and 001 with addresses A4 and F0." "Demands 2 and 3 read 'legal address' as the new range
 -- from here." Their statements keep their text; this is one wire from A4, F0 and FD, read back, said, noted, listed and written again.
-use Rattle.std.specs.Prelude.{ℕ, ◌≡◌, true, false, pos, negsuc, take, drop, replicate}
+use Rattle.std.specs.Prelude.{ℕ, ◌≡◌, true, false, pos, negsuc, drop, replicate, Ok, Some}
 use mathlib.Core.List.{List, [], ◌∷◌, map, flatten}
 use Rattle.body.specs.declared.addresses.Address.TheVariants.{Short, Serial}
 use Rattle.body.specs.Addresses.{legal, address_in}
@@ -10,16 +10,15 @@ use Rattle.frame.specs.Writing.{written_frame}
 use Rattle.line.specs.Listener.{frame, fresh, events}
 use Rattle.line.specs.Readers.{fresh_reader}
 use Rattle.weight.specs.declared.families.Family.TheVariants.{Of000}
-use Rattle.weight.specs.declared.Value.TheVariants.{Tenths}
 use Rattle.codes.specs.declared.table.Role.TheVariants.{Reply}
 use Rattle.codes.specs.declared.table.Load.TheVariants.{Net, Gross}
 use Rattle.meaning.specs.declared.meaning.What.TheVariants as says
-use Rattle.message.specs.declared.reading.Received.TheVariants as received_as
 use Rattle.weighing_log.specs.Hearing.{weighing}
 use Rattle.entries.specs.declared.entries.Entry.TheVariants as entry_as
 use Rattle.entries.specs.Entries.{entry_heard}
 use Rattle.demands.specs.Wire.{Sent, AllProper, wire_of}
 use Rattle.demands.specs.Examples.{Example, computed, bodies_of, e3, e4}
+use Rattle.demands.specs.Messages.{written_bytes}
 use Rattle.demands.specs.Reading.{heard_by}
 use Rattle.demands.specs.Weighings.{records_heard}
 
@@ -54,17 +53,15 @@ older_example = record {
   role = Reply;
   family = Of000;
   said =
-      received_as.Message (record { address = Short 0xA4; code = 0xC3; from = 2; to = 6; what = says.Weight (e3 Of000) })
-      ∷ received_as.Message (record { address = Short 0xF0; code = 0xC2; from = 2; to = 6; what = says.Weight (e4 Of000) })
-      ∷ received_as.Message (record { address = Short 0xFD; code = 0xA1; from = 2; to = 5; what = says.Serial 255 }) ∷ [];
-  values = Tenths (pos 251_000_000) ∷ Tenths (negsuc 4_999_999) ∷ [];
+      Ok (record { address = Short 0xA4; code = 0xC3; from = 2; to = 6; what = says.Weight (e3 Of000) })
+      ∷ Ok (record { address = Short 0xF0; code = 0xC2; from = 2; to = 6; what = says.Weight (e4 Of000) })
+      ∷ Ok (record { address = Short 0xFD; code = 0xA1; from = 2; to = 5; what = says.Serial 255 }) ∷ [];
+  values = Ok (pos 251_000_000) ∷ Ok (negsuc 4_999_999) ∷ [];
 }
 
 -- a body taken apart and handed to the frame writer, with room enough: the bytes that it wrote
 abbrev pub written_again : List ℕ → List ℕ
-written_again body =
-    let left = written_frame (address_in body) (code_in body) (data_in body) (replicate 20 0) in
-    take left.answer.length left.room
+written_again body = written_bytes (written_frame (address_in body) (code_in body) (data_in body) (replicate 20 0))
 
 -- the frames are the user's frames of demand 3. Their wire reads back, whole and in order. Who joins behind its first byte misses only the first
 -- frame. Each body is written as it was heard, by the frame rule and by the frame writer.
@@ -82,4 +79,4 @@ pub record OlderBridges : Type 0 where
       ≡ weighing 1 (Short 0xA4) Gross (e3 Of000).bytes ∷ weighing 2 (Short 0xF0) Net (e4 Of000).bytes ∷ []
   pub listed :
       map (entry_heard Of000) older_example.heard
-      ≡ entry_as.Weight Gross (Short 0xA4) (e3 Of000).reading ∷ entry_as.Weight Net (Short 0xF0) (e4 Of000).reading ∷ entry_as.Message (Short 0xFD) 0xA1 ∷ []
+      ≡ Some (entry_as.Weight Gross (Short 0xA4) (e3 Of000).reading) ∷ Some (entry_as.Weight Net (Short 0xF0) (e4 Of000).reading) ∷ Some (entry_as.Message (Short 0xFD) 0xA1) ∷ []

@@ -1,6 +1,6 @@
 -- 01, "The frame": "Writing: one FF, the body, two FFs. After each FF inside the body one FE is inserted." What was heard stood so on the wire: a
 -- listener who started fresh gives a frame only where its bytes were just taken. So whatever the statements call heard is there in the bytes.
-use Rattle.std.specs.Prelude.{ℕ, ◌%◌, ◌^◌, ◌≡◌, length, T}
+use Rattle.std.specs.Prelude.{ℕ, ◌%◌, ◌^◌, ◌≡◌, length, T, Ok, Some}
 use mathlib.Core.List.{List, [], ◌∷◌, ◌++◌, map, Memᴰ}
 use Rattle.std.proofs.Math.Pow.{are_bytes}
 use Rattle.body.specs.declared.addresses.Address.{Address}
@@ -10,7 +10,6 @@ use Rattle.line.specs.Listener.{frame, fresh, hear, events, after}
 use Rattle.weight.specs.declared.families.Family.{Family}
 use Rattle.weight.specs.declared.FourBytes.{FourBytes}
 use Rattle.weight.specs.declared.Reading.{Reading}
-use Rattle.weight.specs.declared.Packed.TheVariants as packed_as
 use Rattle.weight.specs.Families.{family_number}
 use Rattle.weight.specs.Bytes.{in_order, packed_of}
 use Rattle.codes.specs.declared.table.Role.{Role}
@@ -67,11 +66,11 @@ LogOnTheWire =
 -- and no weight in its listing
 pub record ListedIn (bytes : List ℕ) (family : Family) (load : Load) (address : Address) (reading : Reading) : Type 0 where
   pub four : FourBytes
-  pub packed : packed_of reading ≡ packed_as.Bytes four
+  pub packed : packed_of reading ≡ Ok four
   pub of_line : reading.family ≡ family
   pub reply : ReplyIn bytes load address four
 
 abbrev pub ListingOnTheWire : Type 0
 ListingOnTheWire =
     (bytes : List ℕ) → T (are_bytes bytes) → (family : Family) (load : Load) (address : Address) (reading : Reading)
-    → Memᴰ (Weight load address reading) (map (entry_heard family) (events fresh bytes)) → ListedIn bytes family load address reading
+    → Memᴰ (Some (Weight load address reading)) (map (entry_heard family) (events fresh bytes)) → ListedIn bytes family load address reading

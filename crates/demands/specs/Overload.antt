@@ -2,18 +2,15 @@
 -- the log, so the bytes come back. The listing prints six hyphens for the digits, the float and the gross less net difference are refused too, and every
 -- caller of the value now says what it does then. Refusals: 24 overload, after 8, instead of a value". That the bytes come back is said of every CON:
 -- Families (ComeBack), Messages, Kept, LogsFromBefore. A weight line read by its blanks: WeightLines.
-use Rattle.std.specs.Prelude.{ℕ, ◌≡◌, Bool, true, false, ◌&&◌, ◌||◌, List, ◌++◌, ◌-ℤ◌}
+use Rattle.std.specs.Prelude.{ℕ, ◌≡◌, Bool, true, false, ◌&&◌, ◌||◌, List, ◌++◌, ◌-ℤ◌, Result, Ok, Err, Some}
 use Rattle.refusal.specs.declared.Refusal.{Refusal}
 use Rattle.refusal.specs.declared.Refusal.TheVariants.{FieldOutside, RecordBroken, Overloaded}
-use Rattle.refusal.specs.declared.Verdict.TheVariants as verdict_as
 use Rattle.body.specs.declared.addresses.Address.{Address}
 use Rattle.weight.specs.declared.FourBytes.{FourBytes}
 use Rattle.weight.specs.declared.Reading.{Reading}
-use Rattle.weight.specs.declared.Value.TheVariants as value_as
 use Rattle.weight.specs.Status.{overload, marked}
 use Rattle.weight.specs.Bytes.{in_range, read_of, readable}
 use Rattle.weight.specs.Tenths.{tenths_shown, value_of, difference_of}
-use Rattle.kilograms.specs.declared.Kilograms.TheVariants as kilograms_as
 use Rattle.kilograms.specs.Rounded.{rounded, kilograms_of}
 use Rattle.codes.specs.declared.table.Load.{Load}
 use Rattle.records.specs.declared.records.Record.{Record}
@@ -31,20 +28,20 @@ use Rattle.demands.specs.Unheard.{ReadsAsNone, RefusedAcross}
 -- ---- "24 overload, after 8, instead of a value"
 
 -- an answer, by whether all readings that are asked lie in their ranges, and whether one of them is overloaded
-pub record EightThenTwentyFour {A : Type 0} (refused : Refusal → A) (within over : Bool) (answer otherwise : A) : Type 0 where
-  pub eight : within ≡ false → answer ≡ refused FieldOutside
-  pub twenty_four : within ≡ true → over ≡ true → answer ≡ refused Overloaded
+pub record EightThenTwentyFour {A : Type 0} (within over : Bool) (answer otherwise : Result A Refusal) : Type 0 where
+  pub eight : within ≡ false → answer ≡ Err FieldOutside
+  pub twenty_four : within ≡ true → over ≡ true → answer ≡ Err Overloaded
   pub neither : within ≡ true → over ≡ false → answer ≡ otherwise
 
 -- the value, the float in kilograms, and gross less net: 8 of either reading, then 24 of either
 pub record OverloadRefused : Type 0 where
   pub value : (reading : Reading)
-      → EightThenTwentyFour value_as.Refused (in_range reading) reading.overload (value_of reading) (value_as.Tenths (tenths_shown reading))
+      → EightThenTwentyFour (in_range reading) reading.overload (value_of reading) (Ok (tenths_shown reading))
   pub kilograms : (reading : Reading)
-      → EightThenTwentyFour kilograms_as.Refused (in_range reading) reading.overload (kilograms_of reading) (kilograms_as.Number (rounded (tenths_shown reading)))
+      → EightThenTwentyFour (in_range reading) reading.overload (kilograms_of reading) (Ok (rounded (tenths_shown reading)))
   pub difference : (gross net : Reading)
-      → EightThenTwentyFour value_as.Refused (in_range gross && in_range net) (gross.overload || net.overload) (difference_of gross net)
-      (value_as.Tenths (tenths_shown gross -ℤ tenths_shown net))
+      → EightThenTwentyFour (in_range gross && in_range net) (gross.overload || net.overload) (difference_of gross net)
+      (Ok (tenths_shown gross -ℤ tenths_shown net))
 
 -- ---- in another language: 8 where four bytes cannot be read, also beside an overloaded weight; then 24 where bit 3 of CON is set, in any family
 
@@ -59,7 +56,7 @@ OverloadAcross = (weight : FourBytes) → readable (read_of weight) ≡ true →
 abbrev pub HyphensForDigits : Type 0
 HyphensForDigits =
     (reading : Reading) → reading.overload ≡ true → (number : ℕ) (load : Load) (address : Address)
-    → line_of number (entry_as.Weight load address reading)
+    → line_of number (Some (entry_as.Weight load address reading))
     ≡ line (decimal number) (ahead load address (fields_with (spelt "------") (without reading) ++ mode_fields reading))
 
 -- ---- the table counts weights "without overload": it never asks an overloaded value, and so meets no 24
@@ -68,10 +65,10 @@ HyphensForDigits =
 abbrev pub OverloadGoesIn : Type 0
 OverloadGoesIn =
     (item : Record) (table : Table) → good item ≡ true → weighs item ≡ true → marked overload item.status ≡ true → sound_table table ≡ true
-    → entered item table ≡ record { table = table; records = 1; verdict = verdict_as.Good }
+    → entered item table ≡ record { table = table; records = 1; verdict = Ok tt }
 
 pub record TableMeetsNone : Type 0 where
-  pub unasked : (kind : ℕ) (reading : Reading) → reading.overload ≡ true → by_reading kind reading ≡ counts_kind.Nothing
-  pub counted : (item : Record) (why : Refusal) → counts_as item ≡ counts_kind.Refused why → why ≡ RecordBroken
-  pub by_record : (item : Record) (table : Table) → (entered item table).verdict ≡ verdict_as.Refused Overloaded → ⊥
-  pub by_log : (log : List ℕ) (table : Table) → (filled_from log table).verdict ≡ verdict_as.Refused Overloaded → ⊥
+  pub unasked : (kind : ℕ) (reading : Reading) → reading.overload ≡ true → by_reading kind reading ≡ Ok counts_kind.Nothing
+  pub counted : (item : Record) (why : Refusal) → counts_as item ≡ Err why → why ≡ RecordBroken
+  pub by_record : (item : Record) (table : Table) → (entered item table).verdict ≡ Err Overloaded → ⊥
+  pub by_log : (log : List ℕ) (table : Table) → (filled_from log table).verdict ≡ Err Overloaded → ⊥

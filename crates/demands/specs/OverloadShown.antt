@@ -1,27 +1,20 @@
 -- 02, request 7: "The clerk saw 60 tonnes typed from a screen with the overload light on." These 60 tonnes, from the wire to the listing and to the log;
 -- which refusal comes first; and what a person reads of a line.
-use Rattle.std.specs.Prelude.{ℕ, ◌≡◌, Bool, true, false, List, [], ◌∷◌, map, pos, negsuc, replicate}
+use Rattle.std.specs.Prelude.{ℕ, ◌≡◌, Bool, true, false, List, [], ◌∷◌, map, pos, negsuc, replicate, Result, Ok, Err, Some, None, ℤ}
 use Rattle.refusal.specs.declared.Refusal.TheVariants.{FieldOutside, HeaderWrong, BytesMissing, ParcelCheckWrong, CountFull, Overloaded, LengthOutside, CheckRight, SumBeyond}
-use Rattle.refusal.specs.declared.Named.TheVariants as named_as
 use Rattle.refusal.specs.Numbers.{named_of, line_status}
 use Rattle.body.specs.declared.addresses.Address.TheVariants.{Short}
 use Rattle.line.specs.Listener.{frame, fresh, events}
 use Rattle.weight.specs.declared.families.Family.TheVariants.{Of002}
 use Rattle.weight.specs.declared.FourBytes.{FourBytes}
 use Rattle.weight.specs.declared.Reading.{Reading}
-use Rattle.weight.specs.declared.Read.TheVariants as read_kind
-use Rattle.weight.specs.declared.Packed.TheVariants as packed_as
-use Rattle.weight.specs.declared.Value.{Value}
-use Rattle.weight.specs.declared.Value.TheVariants.{Tenths, Refused}
 use Rattle.weight.specs.Bytes.{read_of, packed_of}
 use Rattle.weight.specs.Tenths.{value_of, difference_of}
-use Rattle.kilograms.specs.declared.Kilograms.TheVariants as kilograms_as
 use Rattle.kilograms.specs.Rounded.{kilograms_of}
 use Rattle.codes.specs.declared.table.Role.TheVariants.{Reply}
 use Rattle.codes.specs.declared.table.Load.TheVariants.{Gross}
 use Rattle.meaning.specs.declared.meaning.What.TheVariants as says
 use Rattle.records.specs.declared.records.Record.{Record}
-use Rattle.records.specs.declared.reading.RecordRead.TheVariants as record_read_as
 use Rattle.records.specs.Records.{met_kind, good}
 use Rattle.records.specs.Layout.{bytes_of_record}
 use Rattle.records.specs.Reading.{read_record}
@@ -36,6 +29,7 @@ use Rattle.demands.specs.Examples.{Example, computed, framed_again, as_sent, fro
 use Rattle.demands.specs.Families.{listed_by_each}
 use Rattle.demands.specs.Weighings.{records_heard}
 use Rattle.demands.specs.WeightLines.{field, any_digit, all_digits, shows_digits, value_shown}
+use Rattle.refusal.specs.declared.Refusal.{Refusal}
 
 -- 60 tonnes, settled, with the overload light on or off, and a point; with a point above 7 it is out of its ranges
 abbrev pub sixty : Bool → ℕ → Reading
@@ -63,7 +57,7 @@ sixty_example = record {
   role = Reply;
   family = Of002;
   said = from1 0xC3 6 (says.Weight (record { load = Gross; bytes = sixty_bytes; reading = sixty true 0 })) ∷ [];
-  values = Refused Overloaded ∷ [];
+  values = Err Overloaded ∷ [];
 }
 
 -- the same; minus 6 tonnes, net, overloaded, in net mode; E3; and the first of E6
@@ -82,30 +76,30 @@ abbrev pub noted24 : Record
 noted24 = record { time = 0; kind = met_kind; address = 0; serial = 0; status = 24; w0 = 0; w1 = 0; w2 = 0; family = 0 }
 
 -- one of them as gross, less each of them
-abbrev pub less_each : Reading → List Value
+abbrev pub less_each : Reading → List (Result ℤ Refusal)
 less_each gross = map (difference_of gross) readings
 
 pub record OverloadShown : Type 0 where
   -- the numbers of 02 so far, and those beside them that are nobody's
   pub numbers :
       map named_of (20 ∷ 21 ∷ 22 ∷ 23 ∷ 24 ∷ 25 ∷ 26 ∷ 31 ∷ [])
-      ≡ map named_as.Refusal (HeaderWrong ∷ BytesMissing ∷ ParcelCheckWrong ∷ CountFull ∷ Overloaded ∷ LengthOutside ∷ CheckRight ∷ SumBeyond ∷ [])
-  pub nobodys : map named_of (0 ∷ 27 ∷ 28 ∷ 29 ∷ 30 ∷ 32 ∷ 255 ∷ []) ≡ replicate 7 named_as.Unknown
+      ≡ map Some (HeaderWrong ∷ BytesMissing ∷ ParcelCheckWrong ∷ CountFull ∷ Overloaded ∷ LengthOutside ∷ CheckRight ∷ SumBeyond ∷ [])
+  pub nobodys : map named_of (0 ∷ 27 ∷ 28 ∷ 29 ∷ 30 ∷ 32 ∷ 255 ∷ []) ≡ replicate 7 None
   -- no line meets 24, no record notes it, and none is listed
-  pub unmet : (line_status 24 ≡ false) × ((good noted24 ≡ false) × (sound (entry_as.Refused Overloaded) ≡ false))
+  pub unmet : (line_status 24 ≡ false) × ((good noted24 ≡ false) × (sound (Some (entry_as.Refused Overloaded)) ≡ false))
   -- "after 8"
-  pub values : map value_of readings ≡ Tenths (pos 600_000_000_000) ∷ Refused Overloaded ∷ Refused FieldOutside ∷ Refused FieldOutside ∷ []
-  pub zero : value_of overloaded_zero ≡ Refused Overloaded
+  pub values : map value_of readings ≡ Ok (pos 600_000_000_000) ∷ Err Overloaded ∷ Err FieldOutside ∷ Err FieldOutside ∷ []
+  pub zero : value_of overloaded_zero ≡ Err Overloaded
   pub floats :
       map kilograms_of (sixty true 0 ∷ sixty true 8 ∷ overloaded_zero ∷ [])
-      ≡ kilograms_as.Refused Overloaded ∷ kilograms_as.Refused FieldOutside ∷ kilograms_as.Refused Overloaded ∷ []
+      ≡ Err Overloaded ∷ Err FieldOutside ∷ Err Overloaded ∷ []
   -- 8 of either reading, then 24 of either
   pub less :
       map less_each readings
-      ≡ (Tenths (pos 0) ∷ Refused Overloaded ∷ Refused FieldOutside ∷ Refused FieldOutside ∷ [])
-      ∷ (Refused Overloaded ∷ Refused Overloaded ∷ Refused FieldOutside ∷ Refused FieldOutside ∷ [])
-      ∷ (Refused FieldOutside ∷ Refused FieldOutside ∷ Refused FieldOutside ∷ Refused FieldOutside ∷ [])
-      ∷ (Refused FieldOutside ∷ Refused FieldOutside ∷ Refused FieldOutside ∷ Refused FieldOutside ∷ [])
+      ≡ (Ok (pos 0) ∷ Err Overloaded ∷ Err FieldOutside ∷ Err FieldOutside ∷ [])
+      ∷ (Err Overloaded ∷ Err Overloaded ∷ Err FieldOutside ∷ Err FieldOutside ∷ [])
+      ∷ (Err FieldOutside ∷ Err FieldOutside ∷ Err FieldOutside ∷ Err FieldOutside ∷ [])
+      ∷ (Err FieldOutside ∷ Err FieldOutside ∷ Err FieldOutside ∷ Err FieldOutside ∷ [])
       ∷ []
   -- digits 000251 of a terminal of 001, not settled, overloaded, in another language: read, with its digits and the light
   pub crossed :
@@ -114,10 +108,10 @@ pub record OverloadShown : Type 0 where
   -- "Its digits are still in the reading and the log, so the bytes come back"
   pub heard : computed sixty_example ≡ sixty_example
   pub written : framed_again sixty_example ≡ as_sent sixty_example
-  pub packed : packed_of (sixty true 0) ≡ packed_as.Bytes sixty_bytes
+  pub packed : packed_of (sixty true 0) ≡ Ok sixty_bytes
   pub noted : records_heard (λ (number : ℕ). number) Reply Of002 (events fresh sixty_example.bytes) ≡ sixty_record ∷ []
-  pub kept : read_record (bytes_of_record sixty_record) ≡ record_read_as.Record sixty_record
-  pub still_noted : weight_noted sixty_record ≡ read_kind.Good (sixty true 0)
+  pub kept : read_record (bytes_of_record sixty_record) ≡ Ok sixty_record
+  pub still_noted : weight_noted sixty_record ≡ Ok (sixty true 0)
   -- "The listing prints six hyphens for the digits"; the line counts as a weight
   pub listed :
       listed_by_each sixty_example.bytes

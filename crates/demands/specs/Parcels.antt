@@ -1,28 +1,25 @@
 -- 02, request 5, "Parcel scales at the foot desk": "reading a written message back, and the single writing of each accepted one, are" claimed here.
 -- Demand 3 is not claimed: "Header bytes may recur inside a body". ParcelsShown has a capture in which they do.
-use Rattle.std.specs.Prelude.{ℕ, ◌*◌, ◌^◌, ◌≤◌, ◌<◌, ◌≡◌, Bool, true, false, List, [], ◌∷◌, ◌++◌, map, ℤ, pos, nat_abs, ◌*ℤ◌, T, length, take, replicate}
+use Rattle.std.specs.Prelude.{ℕ, ◌*◌, ◌^◌, ◌≤◌, ◌<◌, ◌≡◌, Bool, true, false, List, [], ◌∷◌, ◌++◌, map, ℤ, pos, nat_abs, ◌*ℤ◌, T, length, take, replicate, Ok, Err}
 use Rattle.std.specs.Int.Bits.{bit_xor}
 use Rattle.std.proofs.Math.Pow.{are_bytes}
 use Rattle.std.specs.Int.{w32}
 use Rattle.std.proofs.Common.{SFits}
 use Rattle.refusal.specs.declared.Refusal.TheVariants.{CodeUnknown, LengthWrong, FieldOutside, RoomShort, HeaderWrong, BytesMissing, ParcelCheckWrong}
-use Rattle.refusal.specs.declared.Verdict.TheVariants.{Good, Refused}
 use Rattle.room.specs.Writing.{Left, wrote}
-use Rattle.weight.specs.declared.Value.TheVariants.{Tenths}
 use Rattle.register.specs.Register.{all_in}
 use Rattle.parcel_check.specs.Check.{enter_byte, parcel_check}
 use Rattle.parcel_check.specs.Printed.{printed}
 use Rattle.parcel_scale.specs.declared.parcels.ParcelWeight.{ParcelWeight}
 use Rattle.parcel_scale.specs.declared.parcels.Parcel.{Parcel}
 use Rattle.parcel_scale.specs.declared.parcels.Parcel.TheVariants.{GetWeight, SetTare, GetDeviceId, AckWeight, AckCommand, AckDeviceId, Nack}
-use Rattle.parcel_scale.specs.declared.reading.ParcelRead.TheVariants as read_kind
 use Rattle.parcel_scale.specs.Frame.{headed, needs, body_in}
 use Rattle.parcel_scale.specs.Layouts.{Row, Found, known, unknown, row_of}
 use Rattle.parcel_scale.specs.Reading.{sized, within, whole, checked, read_parcel}
 use Rattle.parcel_scale.specs.Value.{division_of, parcel_value}
 use Rattle.parcel_scale.specs.Writing.{parcel_bytes, legal_fields, judged_parcel, written_parcel}
 use Rattle.laws.specs.Exactly.{ExactlyWhere}
-use Rattle.demands.specs.Messages.{written_bytes}
+use Rattle.demands.specs.Messages.{count_written, written_bytes}
 
 -- a message whose tare or count is "a signed 32-bit" number, as every message that a program can hold
 abbrev pub OfItsTypes : Parcel → Type 0
@@ -37,21 +34,21 @@ OfItsTypes Nack = Unit
 -- ---- "reading a written message back": the same message, and as many bytes used as were written, whatever stands behind them in the room
 
 pub record ReadsBack (parcel : Parcel) (left : Left) : Type 0 where
-  pub room : read_parcel left.room ≡ read_kind.Parcel parcel left.answer.length
-  pub alone : read_parcel (written_bytes left) ≡ read_kind.Parcel parcel left.answer.length
+  pub room : read_parcel left.room ≡ Ok (parcel, count_written left.answer)
+  pub alone : read_parcel (written_bytes left) ≡ Ok (parcel, count_written left.answer)
 
 abbrev pub ParcelReadsBack : Type 0
-ParcelReadsBack = (parcel : Parcel) (room : List ℕ) → OfItsTypes parcel → judged_parcel parcel room ≡ Good → ReadsBack parcel (written_parcel parcel room)
+ParcelReadsBack = (parcel : Parcel) (room : List ℕ) → OfItsTypes parcel → judged_parcel parcel room ≡ Ok tt → ReadsBack parcel (written_parcel parcel room)
 
 -- ---- "the single writing of each accepted one": it is written again as exactly the bytes that were used
 
 pub record WrittenAsUsed (bytes : List ℕ) (parcel : Parcel) (used : ℕ) : Type 0 where
   pub there : used ≤ length bytes
   pub same : parcel_bytes parcel ≡ take used bytes
-  pub written : (room : List ℕ) → used ≤ length room → written_parcel parcel room ≡ wrote Good (take used bytes) room
+  pub written : (room : List ℕ) → used ≤ length room → written_parcel parcel room ≡ wrote (Ok tt) (take used bytes) room
 
 abbrev pub SingleWriting : Type 0
-SingleWriting = (bytes : List ℕ) (parcel : Parcel) (used : ℕ) → T (are_bytes bytes) → read_parcel bytes ≡ read_kind.Parcel parcel used → WrittenAsUsed bytes parcel used
+SingleWriting = (bytes : List ℕ) (parcel : Parcel) (used : ℕ) → T (are_bytes bytes) → read_parcel bytes ≡ Ok (parcel, used) → WrittenAsUsed bytes parcel used
 
 -- two messages never have one writing, of those that may be written
 abbrev pub TwoWritings : Type 0
@@ -86,15 +83,15 @@ FramePassed bytes = (headed bytes ≡ true) × ((whole bytes ≡ true) × (check
 -- some message, with as many bytes used as header, length, body and check have
 pub record Accepts (bytes : List ℕ) : Type 0 where
   pub parcel : Parcel
-  pub told : read_parcel bytes ≡ read_kind.Parcel parcel (needs bytes)
+  pub told : read_parcel bytes ≡ Ok (parcel, needs bytes)
 
 pub record AnsweredInOrder (bytes : List ℕ) : Type 0 where
-  pub header : ExactlyWhere (read_parcel bytes ≡ read_kind.Refused HeaderWrong) (headed bytes ≡ false)
-  pub missing : ExactlyWhere (read_parcel bytes ≡ read_kind.Refused BytesMissing) ((headed bytes ≡ true) × (whole bytes ≡ false))
-  pub check : ExactlyWhere (read_parcel bytes ≡ read_kind.Refused ParcelCheckWrong) ((headed bytes ≡ true) × ((whole bytes ≡ true) × (checked bytes ≡ false)))
-  pub code : ExactlyWhere (read_parcel bytes ≡ read_kind.Refused CodeUnknown) (FramePassed bytes × (code_known (body_in bytes) ≡ false))
-  pub data_length : ExactlyWhere (read_parcel bytes ≡ read_kind.Refused LengthWrong) (FramePassed bytes × ((code_known (body_in bytes) ≡ true) × (data_length_right (body_in bytes) ≡ false)))
-  pub field : ExactlyWhere (read_parcel bytes ≡ read_kind.Refused FieldOutside) (FramePassed bytes × ((code_known (body_in bytes) ≡ true) × ((data_length_right (body_in bytes) ≡ true) × (data_fields_right (body_in bytes) ≡ false))))
+  pub header : ExactlyWhere (read_parcel bytes ≡ Err HeaderWrong) (headed bytes ≡ false)
+  pub missing : ExactlyWhere (read_parcel bytes ≡ Err BytesMissing) ((headed bytes ≡ true) × (whole bytes ≡ false))
+  pub check : ExactlyWhere (read_parcel bytes ≡ Err ParcelCheckWrong) ((headed bytes ≡ true) × ((whole bytes ≡ true) × (checked bytes ≡ false)))
+  pub code : ExactlyWhere (read_parcel bytes ≡ Err CodeUnknown) (FramePassed bytes × (code_known (body_in bytes) ≡ false))
+  pub data_length : ExactlyWhere (read_parcel bytes ≡ Err LengthWrong) (FramePassed bytes × ((code_known (body_in bytes) ≡ true) × (data_length_right (body_in bytes) ≡ false)))
+  pub field : ExactlyWhere (read_parcel bytes ≡ Err FieldOutside) (FramePassed bytes × ((code_known (body_in bytes) ≡ true) × ((data_length_right (body_in bytes) ≡ true) × (data_fields_right (body_in bytes) ≡ false))))
   pub accepted : ExactlyWhere (Accepts bytes) (FramePassed bytes × ((code_known (body_in bytes) ≡ true) × ((data_length_right (body_in bytes) ≡ true) × (data_fields_right (body_in bytes) ≡ true))))
 
 abbrev pub OneAnswerInOrder : Type 0
@@ -107,10 +104,10 @@ BehindTheCheck = (bytes more : List ℕ) → whole bytes ≡ true → read_parce
 -- ---- "writing judges 6, 8, 9": 6 has nobody to meet
 
 pub record JudgedInOrder (parcel : Parcel) (room : List ℕ) : Type 0 where
-  pub never_code : judged_parcel parcel room ≡ Refused CodeUnknown → ⊥
-  pub field : ExactlyWhere (judged_parcel parcel room ≡ Refused FieldOutside) (legal_fields parcel ≡ false)
-  pub room_short : ExactlyWhere (judged_parcel parcel room ≡ Refused RoomShort) ((legal_fields parcel ≡ true) × (length room < length (parcel_bytes parcel)))
-  pub good : ExactlyWhere (judged_parcel parcel room ≡ Good) ((legal_fields parcel ≡ true) × (length (parcel_bytes parcel) ≤ length room))
+  pub never_code : judged_parcel parcel room ≡ Err CodeUnknown → ⊥
+  pub field : ExactlyWhere (judged_parcel parcel room ≡ Err FieldOutside) (legal_fields parcel ≡ false)
+  pub room_short : ExactlyWhere (judged_parcel parcel room ≡ Err RoomShort) ((legal_fields parcel ≡ true) × (length room < length (parcel_bytes parcel)))
+  pub good : ExactlyWhere (judged_parcel parcel room ≡ Ok tt) ((legal_fields parcel ≡ true) × (length (parcel_bytes parcel) ≤ length room))
 
 abbrev pub WritingInOrder : Type 0
 WritingInOrder = (parcel : Parcel) (room : List ℕ) → JudgedInOrder parcel room
@@ -150,10 +147,10 @@ PrintedIsTheCheck = (body : List ℕ) → printed 0 body ≡ parcel_check body
 
 -- at most 2^31 divisions of a kilogram, sign aside
 abbrev pub ValueBound : Type 0
-ValueBound = (told : ParcelWeight) (tenths : ℤ) → SFits w32 told.count → parcel_value told ≡ Tenths tenths → nat_abs tenths ≤ 2 ^ 31 * 10 ^ 7
+ValueBound = (told : ParcelWeight) (tenths : ℤ) → SFits w32 told.count → parcel_value told ≡ Ok tenths → nat_abs tenths ≤ 2 ^ 31 * 10 ^ 7
 
 -- a weight that was read has a value
 abbrev pub ReadHasValue : Type 0
 ReadHasValue =
-    (bytes : List ℕ) (told : ParcelWeight) (used : ℕ) → read_parcel bytes ≡ read_kind.Parcel (AckWeight told) used
-    → parcel_value told ≡ Tenths (told.count *ℤ pos (division_of told.division))
+    (bytes : List ℕ) (told : ParcelWeight) (used : ℕ) → read_parcel bytes ≡ Ok (AckWeight told, used)
+    → parcel_value told ≡ Ok (told.count *ℤ pos (division_of told.division))

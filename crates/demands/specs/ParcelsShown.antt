@@ -1,20 +1,14 @@
 -- 02, request 5: parcels computed. The seven messages as they go out, what bytes are read as at the edge of each refusal, what is written at the edge
 -- of 8 and 9, values, and the capture for which demand 3 is not claimed.
-use Rattle.std.specs.Prelude.{ℕ, ◌≡◌, List, [], ◌∷◌, map, ℤ, pos, negsuc, length, drop, replicate}
+use Rattle.std.specs.Prelude.{ℕ, ◌≡◌, List, [], ◌∷◌, map, ℤ, pos, negsuc, length, drop, replicate, Result, Ok, Err, None}
 use Rattle.refusal.specs.declared.Refusal.TheVariants.{CodeUnknown, LengthWrong, FieldOutside, RoomShort, HeaderWrong, BytesMissing, ParcelCheckWrong}
 use Rattle.refusal.specs.declared.Refusal.{Refusal}
-use Rattle.refusal.specs.declared.Named.TheVariants as named_as
 use Rattle.refusal.specs.Numbers.{number_of, named_of}
 use Rattle.room.specs.Writing.{Left}
 use Rattle.parcel_check.specs.Check.{parcel_check}
-use Rattle.refusal.specs.declared.Verdict.TheVariants.{Good, Refused}
-use Rattle.weight.specs.declared.Value.{Value}
-use Rattle.weight.specs.declared.Value.TheVariants as value_as
 use Rattle.parcel_scale.specs.declared.parcels.ParcelWeight.{ParcelWeight}
 use Rattle.parcel_scale.specs.declared.parcels.Parcel.{Parcel}
 use Rattle.parcel_scale.specs.declared.parcels.Parcel.TheVariants.{GetWeight, SetTare, GetDeviceId, AckWeight, AckCommand, AckDeviceId, Nack}
-use Rattle.parcel_scale.specs.declared.reading.ParcelRead.{ParcelRead}
-use Rattle.parcel_scale.specs.declared.reading.ParcelRead.TheVariants as read_kind
 use Rattle.parcel_scale.specs.Reading.{read_parcel}
 use Rattle.parcel_scale.specs.Value.{parcel_value}
 use Rattle.parcel_scale.specs.Writing.{parcel_bytes, written_parcel}
@@ -46,53 +40,53 @@ seven_messages =
 pub record SevenMessages : Type 0 where
   pub written : map (λ (sent : Sent). parcel_bytes sent.parcel) seven_messages ≡ map (λ (sent : Sent). sent.bytes) seven_messages
   pub read : map (λ (sent : Sent). read_parcel sent.bytes) seven_messages
-      ≡ map (λ (sent : Sent). read_kind.Parcel sent.parcel (length sent.bytes)) seven_messages
+      ≡ map (λ (sent : Sent). Ok (sent.parcel, length sent.bytes)) seven_messages
 
 -- ---- reading, at the edge of each refusal
 
 pub record Lent : Type 0 where
   pub bytes : List ℕ
-  pub read : ParcelRead
+  pub read : Result (Parcel × ℕ) Refusal
 
 abbrev pub lent_bytes : List Lent
 lent_bytes =
     -- no bytes, one and two bytes of a right header: 20, not 21
-    record { bytes = []; read = read_kind.Refused HeaderWrong }
-    ∷ record { bytes = 0xF8 ∷ []; read = read_kind.Refused HeaderWrong }
-    ∷ record { bytes = 0xF8 ∷ 0x55 ∷ []; read = read_kind.Refused HeaderWrong }
+    record { bytes = []; read = Err HeaderWrong }
+    ∷ record { bytes = 0xF8 ∷ []; read = Err HeaderWrong }
+    ∷ record { bytes = 0xF8 ∷ 0x55 ∷ []; read = Err HeaderWrong }
     -- the third header byte wrong, the rest right
-    ∷ record { bytes = 0xF8 ∷ 0x55 ∷ 0xCF ∷ 0x01 ∷ 0x00 ∷ 0xA0 ∷ 0xA0 ∷ 0x00 ∷ []; read = read_kind.Refused HeaderWrong }
+    ∷ record { bytes = 0xF8 ∷ 0x55 ∷ 0xCF ∷ 0x01 ∷ 0x00 ∷ 0xA0 ∷ 0xA0 ∷ 0x00 ∷ []; read = Err HeaderWrong }
     -- three right bytes and nothing else: 21
-    ∷ record { bytes = 0xF8 ∷ 0x55 ∷ 0xCE ∷ []; read = read_kind.Refused BytesMissing }
-    ∷ record { bytes = 0xF8 ∷ 0x55 ∷ 0xCE ∷ 0x01 ∷ []; read = read_kind.Refused BytesMissing }
+    ∷ record { bytes = 0xF8 ∷ 0x55 ∷ 0xCE ∷ []; read = Err BytesMissing }
+    ∷ record { bytes = 0xF8 ∷ 0x55 ∷ 0xCE ∷ 0x01 ∷ []; read = Err BytesMissing }
     -- one byte of the check missing
-    ∷ record { bytes = 0xF8 ∷ 0x55 ∷ 0xCE ∷ 0x01 ∷ 0x00 ∷ 0xA0 ∷ 0xA0 ∷ []; read = read_kind.Refused BytesMissing }
+    ∷ record { bytes = 0xF8 ∷ 0x55 ∷ 0xCE ∷ 0x01 ∷ 0x00 ∷ 0xA0 ∷ 0xA0 ∷ []; read = Err BytesMissing }
     -- the length is low byte first: 256 bytes are wanted here
-    ∷ record { bytes = 0xF8 ∷ 0x55 ∷ 0xCE ∷ 0x00 ∷ 0x01 ∷ 0xA0 ∷ 0xA0 ∷ 0x00 ∷ []; read = read_kind.Refused BytesMissing }
+    ∷ record { bytes = 0xF8 ∷ 0x55 ∷ 0xCE ∷ 0x00 ∷ 0x01 ∷ 0xA0 ∷ 0xA0 ∷ 0x00 ∷ []; read = Err BytesMissing }
     -- the check's bytes exchanged; it is also the check with one zero byte fed
-    ∷ record { bytes = 0xF8 ∷ 0x55 ∷ 0xCE ∷ 0x01 ∷ 0x00 ∷ 0xA0 ∷ 0x00 ∷ 0xA0 ∷ []; read = read_kind.Refused ParcelCheckWrong }
+    ∷ record { bytes = 0xF8 ∷ 0x55 ∷ 0xCE ∷ 0x01 ∷ 0x00 ∷ 0xA0 ∷ 0x00 ∷ 0xA0 ∷ []; read = Err ParcelCheckWrong }
     -- the check as it would be with two zero bytes fed
-    ∷ record { bytes = 0xF8 ∷ 0x55 ∷ 0xCE ∷ 0x01 ∷ 0x00 ∷ 0xA0 ∷ 0xEA ∷ 0xB5 ∷ []; read = read_kind.Refused ParcelCheckWrong }
+    ∷ record { bytes = 0xF8 ∷ 0x55 ∷ 0xCE ∷ 0x01 ∷ 0x00 ∷ 0xA0 ∷ 0xEA ∷ 0xB5 ∷ []; read = Err ParcelCheckWrong }
     -- a zero byte that ends the body is fed like any other
-    ∷ record { bytes = 0xF8 ∷ 0x55 ∷ 0xCE ∷ 0x02 ∷ 0x00 ∷ 0xA0 ∷ 0x00 ∷ 0xA0 ∷ 0x00 ∷ []; read = read_kind.Refused ParcelCheckWrong }
+    ∷ record { bytes = 0xF8 ∷ 0x55 ∷ 0xCE ∷ 0x02 ∷ 0x00 ∷ 0xA0 ∷ 0x00 ∷ 0xA0 ∷ 0x00 ∷ []; read = Err ParcelCheckWrong }
     -- an empty body needs its check first, and is then 6
-    ∷ record { bytes = 0xF8 ∷ 0x55 ∷ 0xCE ∷ 0x00 ∷ 0x00 ∷ 0x01 ∷ 0x00 ∷ []; read = read_kind.Refused ParcelCheckWrong }
-    ∷ record { bytes = 0xF8 ∷ 0x55 ∷ 0xCE ∷ 0x00 ∷ 0x00 ∷ 0x00 ∷ 0x00 ∷ []; read = read_kind.Refused CodeUnknown }
+    ∷ record { bytes = 0xF8 ∷ 0x55 ∷ 0xCE ∷ 0x00 ∷ 0x00 ∷ 0x01 ∷ 0x00 ∷ []; read = Err ParcelCheckWrong }
+    ∷ record { bytes = 0xF8 ∷ 0x55 ∷ 0xCE ∷ 0x00 ∷ 0x00 ∷ 0x00 ∷ 0x00 ∷ []; read = Err CodeUnknown }
     -- A1 is a code of 004, and none of the seven
-    ∷ record { bytes = 0xF8 ∷ 0x55 ∷ 0xCE ∷ 0x01 ∷ 0x00 ∷ 0xA1 ∷ 0xA1 ∷ 0x00 ∷ []; read = read_kind.Refused CodeUnknown }
+    ∷ record { bytes = 0xF8 ∷ 0x55 ∷ 0xCE ∷ 0x01 ∷ 0x00 ∷ 0xA1 ∷ 0xA1 ∷ 0x00 ∷ []; read = Err CodeUnknown }
     -- A0 with a byte too many
-    ∷ record { bytes = 0xF8 ∷ 0x55 ∷ 0xCE ∷ 0x02 ∷ 0x00 ∷ 0xA0 ∷ 0x00 ∷ 0x00 ∷ 0xA0 ∷ []; read = read_kind.Refused LengthWrong }
+    ∷ record { bytes = 0xF8 ∷ 0x55 ∷ 0xCE ∷ 0x02 ∷ 0x00 ∷ 0xA0 ∷ 0x00 ∷ 0x00 ∷ 0xA0 ∷ []; read = Err LengthWrong }
     -- division 5, stable 2
-    ∷ record { bytes = 0xF8 ∷ 0x55 ∷ 0xCE ∷ 0x07 ∷ 0x00 ∷ 0x10 ∷ 0x00 ∷ 0x00 ∷ 0x00 ∷ 0x00 ∷ 0x05 ∷ 0x01 ∷ 0x5B ∷ 0x01 ∷ []; read = read_kind.Refused FieldOutside }
-    ∷ record { bytes = 0xF8 ∷ 0x55 ∷ 0xCE ∷ 0x07 ∷ 0x00 ∷ 0x10 ∷ 0x00 ∷ 0x00 ∷ 0x00 ∷ 0x00 ∷ 0x00 ∷ 0x02 ∷ 0x58 ∷ 0x04 ∷ []; read = read_kind.Refused FieldOutside }
+    ∷ record { bytes = 0xF8 ∷ 0x55 ∷ 0xCE ∷ 0x07 ∷ 0x00 ∷ 0x10 ∷ 0x00 ∷ 0x00 ∷ 0x00 ∷ 0x00 ∷ 0x05 ∷ 0x01 ∷ 0x5B ∷ 0x01 ∷ []; read = Err FieldOutside }
+    ∷ record { bytes = 0xF8 ∷ 0x55 ∷ 0xCE ∷ 0x07 ∷ 0x00 ∷ 0x10 ∷ 0x00 ∷ 0x00 ∷ 0x00 ∷ 0x00 ∷ 0x00 ∷ 0x02 ∷ 0x58 ∷ 0x04 ∷ []; read = Err FieldOutside }
     -- bytes behind the check are not looked at
-    ∷ record { bytes = 0xF8 ∷ 0x55 ∷ 0xCE ∷ 0x01 ∷ 0x00 ∷ 0xA0 ∷ 0xA0 ∷ 0x00 ∷ 0xF8 ∷ 0x55 ∷ []; read = read_kind.Parcel GetWeight 8 }
+    ∷ record { bytes = 0xF8 ∷ 0x55 ∷ 0xCE ∷ 0x01 ∷ 0x00 ∷ 0xA0 ∷ 0xA0 ∷ 0x00 ∷ 0xF8 ∷ 0x55 ∷ []; read = Ok (GetWeight, 8) }
     ∷ []
 
 -- an answer's number: 0 where nothing is refused
-abbrev pub number_read : ParcelRead → ℕ
-number_read (read_kind.Parcel parcel used) = 0
-number_read (read_kind.Refused why) = number_of why
+abbrev pub number_read : Result (Parcel × ℕ) Refusal → ℕ
+number_read (Ok (parcel, used)) = 0
+number_read (Err why) = number_of why
 
 pub record ReadAtTheEdges : Type 0 where
   pub read : map (λ (lent : Lent). read_parcel lent.bytes) lent_bytes ≡ map (λ (lent : Lent). lent.read) lent_bytes
@@ -106,9 +100,9 @@ pub record AskedWrite : Type 0 where
   pub room : List ℕ
   pub left : Left
 
--- what a refused write leaves: length 0, and the room as it stood
+-- what a refused write leaves: the refusal, and the room as it stood
 abbrev pub untouched : Refusal → List ℕ → Left
-untouched why room = record { answer = record { verdict = Refused why; length = 0 }; room = room }
+untouched why room = record { answer = Err why; room = room }
 
 abbrev pub lent_room : ℕ → List ℕ
 lent_room count = replicate count 0xEE
@@ -118,12 +112,12 @@ asked_writes =
     record {
       parcel = GetWeight;
       room = 1 ∷ 2 ∷ 3 ∷ 4 ∷ 5 ∷ 6 ∷ 7 ∷ 8 ∷ 9 ∷ 10 ∷ [];
-      left = record { answer = record { verdict = Good; length = 8 }; room = 0xF8 ∷ 0x55 ∷ 0xCE ∷ 0x01 ∷ 0x00 ∷ 0xA0 ∷ 0xA0 ∷ 0x00 ∷ 9 ∷ 10 ∷ [] };
+      left = record { answer = Ok 8; room = 0xF8 ∷ 0x55 ∷ 0xCE ∷ 0x01 ∷ 0x00 ∷ 0xA0 ∷ 0xA0 ∷ 0x00 ∷ 9 ∷ 10 ∷ [] };
     }
     ∷ record {
       parcel = GetWeight;
       room = lent_room 8;
-      left = record { answer = record { verdict = Good; length = 8 }; room = 0xF8 ∷ 0x55 ∷ 0xCE ∷ 0x01 ∷ 0x00 ∷ 0xA0 ∷ 0xA0 ∷ 0x00 ∷ [] };
+      left = record { answer = Ok 8; room = 0xF8 ∷ 0x55 ∷ 0xCE ∷ 0x01 ∷ 0x00 ∷ 0xA0 ∷ 0xA0 ∷ 0x00 ∷ [] };
     }
     ∷ record { parcel = GetWeight; room = lent_room 7; left = untouched RoomShort (lent_room 7) }
     ∷ record { parcel = AckWeight (weighed (pos 0) 5 0); room = lent_room 20; left = untouched FieldOutside (lent_room 20) }
@@ -140,21 +134,21 @@ WrittenAtTheEdges = map (λ (asked : AskedWrite). written_parcel asked.parcel as
 
 pub record Worth : Type 0 where
   pub told : ParcelWeight
-  pub value : Value
+  pub value : Result ℤ Refusal
 
 -- one division of each code: 100 mg, 1 g, 10 g, 100 g, 1 kg; a negative count; the lowest and the highest; 8
 abbrev pub worths : List Worth
 worths =
-    record { told = weighed (pos 1) 0 0; value = value_as.Tenths (pos 1000) }
-    ∷ record { told = weighed (pos 1) 1 1; value = value_as.Tenths (pos 10000) }
-    ∷ record { told = weighed (pos 1) 2 1; value = value_as.Tenths (pos 100000) }
-    ∷ record { told = weighed (pos 1) 3 1; value = value_as.Tenths (pos 1000000) }
-    ∷ record { told = weighed (pos 1) 4 1; value = value_as.Tenths (pos 10000000) }
-    ∷ record { told = weighed (negsuc 4) 1 0; value = value_as.Tenths (negsuc 49999) }
-    ∷ record { told = weighed (negsuc 2147483647) 4 1; value = value_as.Tenths (negsuc 21474836479999999) }
-    ∷ record { told = weighed (pos 2147483647) 4 1; value = value_as.Tenths (pos 21474836470000000) }
-    ∷ record { told = weighed (pos 1) 5 1; value = value_as.Refused FieldOutside }
-    ∷ record { told = weighed (pos 1) 0 2; value = value_as.Refused FieldOutside }
+    record { told = weighed (pos 1) 0 0; value = Ok (pos 1000) }
+    ∷ record { told = weighed (pos 1) 1 1; value = Ok (pos 10000) }
+    ∷ record { told = weighed (pos 1) 2 1; value = Ok (pos 100000) }
+    ∷ record { told = weighed (pos 1) 3 1; value = Ok (pos 1000000) }
+    ∷ record { told = weighed (pos 1) 4 1; value = Ok (pos 10000000) }
+    ∷ record { told = weighed (negsuc 4) 1 0; value = Ok (negsuc 49999) }
+    ∷ record { told = weighed (negsuc 2147483647) 4 1; value = Ok (negsuc 21474836479999999) }
+    ∷ record { told = weighed (pos 2147483647) 4 1; value = Ok (pos 21474836470000000) }
+    ∷ record { told = weighed (pos 1) 5 1; value = Err FieldOutside }
+    ∷ record { told = weighed (pos 1) 0 2; value = Err FieldOutside }
     ∷ []
 
 abbrev pub ValuesShown : Type 0
@@ -172,10 +166,10 @@ abbrev pub message_in_file : List ℕ
 message_in_file = 0xF8 ∷ 0x55 ∷ 0xCE ∷ 0x10 ∷ 0x00 ∷ 0x82 ∷ 0x01 ∷ 0x01 ∷ 0x00 ∷ 0x01 ∷ 0x00 ∷ 0x08 ∷ 0x00 ∷ 0xF8 ∷ 0x55 ∷ 0xCE ∷ 0x01 ∷ 0x00 ∷ 0xA0 ∷ 0xA0 ∷ 0x00 ∷ 0x8A ∷ 0x0F ∷ []
 
 pub record HeaderInsideABody : Type 0 where
-  pub tare : read_parcel header_in_tare ≡ read_kind.Parcel (SetTare (pos 30299640)) 12
-  pub tare_late : read_parcel (drop 6 header_in_tare) ≡ read_kind.Refused BytesMissing
-  pub file : read_parcel message_in_file ≡ read_kind.Refused CodeUnknown
-  pub file_late : read_parcel (drop 13 message_in_file) ≡ read_kind.Parcel GetWeight 8
+  pub tare : read_parcel header_in_tare ≡ Ok (SetTare (pos 30299640), 12)
+  pub tare_late : read_parcel (drop 6 header_in_tare) ≡ Err BytesMissing
+  pub file : read_parcel message_in_file ≡ Err CodeUnknown
+  pub file_late : read_parcel (drop 13 message_in_file) ≡ Ok (GetWeight, 8)
 
 -- ---- the check: "no zero bytes fed", so that a receiver compares: A0 with its check behind it feeds to 15EAh and not to 0
 
@@ -184,7 +178,7 @@ CheckFedThrough = parcel_check (0xA0 ∷ 0xA0 ∷ 0x00 ∷ []) ≡ 0x15EA
 
 -- 12 to 19 are no refusal's number
 abbrev pub NobodysNumbers : Type 0
-NobodysNumbers = map named_of (12 ∷ 13 ∷ 14 ∷ 15 ∷ 16 ∷ 17 ∷ 18 ∷ 19 ∷ []) ≡ replicate 8 named_as.Unknown
+NobodysNumbers = map named_of (12 ∷ 13 ∷ 14 ∷ 15 ∷ 16 ∷ 17 ∷ 18 ∷ 19 ∷ []) ≡ replicate 8 None
 
 -- ---- "a signed 32-bit" number: what the laws ask of a message's types holds of every message up to the last number, and of none beyond
 

@@ -1,13 +1,10 @@
 -- The reader that the code has is the paper's listener: byte by byte, block by block, and for what the frame writer wrote.
-use Rattle.std.specs.Prelude.{ℕ, ◌≤◌, ◌≡◌, length, take, drop}
+use Rattle.std.specs.Prelude.{ℕ, ◌≤◌, ◌≡◌, length, take, drop, Ok, None}
 use mathlib.Core.List.{List, [], ◌∷◌, flatten}
-use Rattle.refusal.specs.declared.Verdict.TheVariants.{Good}
-use Rattle.room.specs.declared.Written.{Written}
 use Rattle.room.specs.Writing.{Leaves}
 use Rattle.body.specs.declared.addresses.Address.{Address}
 use Rattle.body.specs.Body.{body_of}
 use Rattle.frame.specs.Writing.{written_frame}
-use Rattle.line.specs.declared.places.Event.TheVariants.{Nothing}
 use Rattle.line.specs.declared.reading.Reader.{Reader}
 use Rattle.line.specs.Listener.{Heard, frame, hear, heard_then, events}
 use Rattle.line.specs.Readers.{view, taken, heard_as, fed, fresh_reader}
@@ -44,7 +41,7 @@ HearsAsListener = (reader : Reader) (bytes : List ℕ) → heard_by reader bytes
 -- would have brought it, and it has told the first thing that feeding byte by byte would have told.
 pub record AsBytes (reader : Reader) (block : List ℕ) : Type 0 where
   pub inside : (fed reader block).used ≤ length block
-  pub to_the_end : (fed reader block).event ≡ Nothing → (fed reader block).used ≡ length block
+  pub to_the_end : (fed reader block).event ≡ None → (fed reader block).used ≡ length block
   pub stands : (fed reader block).reader ≡ after_bytes reader (take (fed reader block).used block)
   pub heard :
       heard_by reader block
@@ -65,7 +62,5 @@ ReaderDemand3 = (list : List Sent) → AllShared list → (joined : ℕ) → hea
 
 abbrev pub FrameReadsBack : Type 0
 FrameReadsBack =
-    (address : Address) (code : ℕ) (data' room : List ℕ) (answered : Written) (left : List ℕ)
-    → Leaves (written_frame address code data' room) answered left → answered.verdict ≡ Good
-    → heard_by fresh_reader (take answered.length left)
-    ≡ frame answered.length (length (body_of address code data')) (body_of address code data') ∷ []
+    (address : Address) (code : ℕ) (data' room : List ℕ) (count : ℕ) (left : List ℕ) → Leaves (written_frame address code data' room) (Ok count) left
+    → heard_by fresh_reader (take count left) ≡ frame count (length (body_of address code data')) (body_of address code data') ∷ []

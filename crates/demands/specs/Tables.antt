@@ -1,6 +1,6 @@
 -- 02, request 6, "The weekday and hour table": "Say it as a statement about all records of the log." Each cell is compared with what a person
 -- counts by hand, by their fields, in the records that went in. How a table is filled beyond that (31, record by record, lent tables) is in LentTables.
-use Rattle.std.specs.Prelude.{ℕ, suc, ◌+◌, ◌*◌, ◌-◌, ◌/◌, ◌%◌, ◌^◌, ◌≤◌, ◌<◌, ◌≡◌, Bool, true, not, cond, ◌&&◌, List, [], ◌∷◌, eqb, ℤ, pos, ◌+ℤ◌, length, take, get_or}
+use Rattle.std.specs.Prelude.{ℕ, suc, ◌+◌, ◌*◌, ◌-◌, ◌/◌, ◌%◌, ◌^◌, ◌≤◌, ◌<◌, ◌≡◌, Bool, true, not, cond, ◌&&◌, List, [], ◌∷◌, eqb, ℤ, pos, ◌+ℤ◌, length, take, get_or, Ok, None}
 use Rattle.weight.specs.Digits.{digits_of}
 use Rattle.weight.specs.Status.{marked, minus, settled, overload}
 use Rattle.weight.specs.Tenths.{signed}
@@ -10,7 +10,6 @@ use Rattle.hour_cell.specs.declared.cells.Cell.{Cell}
 use Rattle.hour_table.specs.declared.filled.Filled.{Filled}
 use Rattle.hour_table.specs.Tables.{Table, empty_table}
 use Rattle.hour_table.specs.Filling.{filled_from}
-use Rattle.hour_mean.specs.declared.Mean.TheVariants as mean_as
 use Rattle.hour_mean.specs.Means.{mean_of}
 
 -- ---- what a person counts by hand, from the fields of a record
@@ -78,7 +77,7 @@ pub record GoneIn (log : List ℕ) (filled : Filled) : Type 0 where
   pub all : filled.records ≡ length (whole_log log).records
   pub ending : filled.verdict ≡ (whole_log log).ending
 
--- all records that can be read go in, and then 10 or 11 as the log gives them; for a whole and valid log Good
+-- all records that can be read go in, and then 10 or 11 as the log gives them; for a whole and valid log `Ok`
 abbrev pub GoesInWhole : Type 0
 GoesInWhole =
     (log : List ℕ) → ((weekday hour : ℕ) → weekday < 7 → hour < 24 → Fits (whole_log log).records weekday hour)
@@ -121,7 +120,7 @@ EachHasACell = (item : Record) → InACell item
 
 pub record Unheard (cell : Cell) : Type 0 where
   pub count : cell.weights ≡ 0
-  pub mean : mean_of cell ≡ mean_as.NoReadings
+  pub mean : mean_of cell ≡ Ok None
 
 -- where nothing was heard, and nowhere else
 abbrev pub NothingHeard : Type 0
@@ -133,7 +132,7 @@ NothingHeard =
 abbrev pub SomethingHeard : Type 0
 SomethingHeard =
     (log : List ℕ) (weekday hour : ℕ) → weekday < 7 → hour < 24
-    → mean_of (cell_of (filled_from log empty_table).table weekday hour) ≡ mean_as.NoReadings
+    → mean_of (cell_of (filled_from log empty_table).table weekday hour) ≡ Ok None
     → how_many (weight_in weekday hour) (went_in log (filled_from log empty_table)) ≡ 0
 
 -- ---- nothing is lost: all cells together are all settled gross weights without overload, and all refused records, that went in

@@ -1,16 +1,12 @@
 -- 02, request 6: the table computed. Times at the edges of hours, days and weeks; a small log and what a person counts in it; the edges of 23 and 31;
 -- means.
-use Rattle.std.specs.Prelude.{ℕ, ◌+◌, ◌*◌, ◌≡◌, true, false, List, [], ◌∷◌, ◌++◌, map, ℤ, pos, negsuc, neg_ℤ, replicate}
+use Rattle.std.specs.Prelude.{ℕ, ◌+◌, ◌*◌, ◌≡◌, true, false, List, [], ◌∷◌, ◌++◌, map, ℤ, pos, negsuc, neg_ℤ, replicate, Result, Ok, Err, Option, Some, None}
 use Rattle.refusal.specs.declared.Refusal.TheVariants.{FieldOutside, LogLeftOver, RecordBroken, CountFull, SumBeyond}
-use Rattle.refusal.specs.declared.Verdict.{Verdict}
-use Rattle.refusal.specs.declared.Verdict.TheVariants.{Good, Refused}
 use Rattle.refusal.specs.Numbers.{number_of}
 use Rattle.records.specs.declared.records.Record.{Record}
 use Rattle.records.specs.Stepping.{bytes_of_log}
 use Rattle.hour_cell.specs.declared.cells.Cell.{Cell}
 use Rattle.hour_cell.specs.declared.slots.Slot.{Slot}
-use Rattle.hour_cell.specs.declared.adding.Added.{Added}
-use Rattle.hour_cell.specs.declared.adding.Added.TheVariants as added_kind
 use Rattle.hour_cell.specs.Slots.{slot_of}
 use Rattle.hour_cell.specs.declared.counting.CountsAs.TheVariants as counts_kind
 use Rattle.hour_cell.specs.Cells.{largest, sound, with_weight, with_refused}
@@ -18,10 +14,10 @@ use Rattle.hour_cell.specs.Counting.{counts_as}
 use Rattle.hour_table.specs.declared.filled.Filled.{Filled}
 use Rattle.hour_table.specs.Tables.{Table, empty_table}
 use Rattle.hour_table.specs.Filling.{table_in, entered, filled_from}
-use Rattle.hour_mean.specs.declared.Mean.{Mean}
-use Rattle.hour_mean.specs.declared.Mean.TheVariants as mean_as
 use Rattle.hour_mean.specs.Means.{mean_of}
 use Rattle.demands.specs.Tables.{weight_in, refused_in, how_many, sum_of}
+use Rattle.refusal.specs.declared.Refusal.{Refusal}
+use Rattle.hour_mean.specs.declared.Fraction.{Fraction}
 
 abbrev pub slot : ℕ → ℕ → Slot
 slot weekday hour = record { weekday = weekday; hour = hour }
@@ -92,7 +88,7 @@ table_of first second last =
 abbrev pub small_table : Table
 small_table = table_of (cell 2 (pos 246000000) 1) (cell 0 (pos 0) 1) (cell 1 (pos 0) 0)
 
-abbrev pub filled_by : Table → ℕ → Verdict → Filled
+abbrev pub filled_by : Table → ℕ → Result (Unit {0}) Refusal → Filled
 filled_by table records verdict = record { table = table; records = records; verdict = verdict }
 
 abbrev pub broken : Record
@@ -100,11 +96,11 @@ broken = met 0 12
 
 pub record SmallLogFilled : Type 0 where
   pub silent : empty_table ≡ table_of nothing nothing nothing
-  pub whole : filled_from (bytes_of_log small_log) empty_table ≡ filled_by small_table 8 Good
-  pub left_over : filled_from (bytes_of_log small_log ++ (0 ∷ [])) empty_table ≡ filled_by small_table 8 (Refused LogLeftOver)
-  pub broken_first : filled_from (bytes_of_log small_log ++ (bytes_of_log (broken ∷ small_log) ++ (0 ∷ []))) empty_table ≡ filled_by small_table 8 (Refused RecordBroken)
-  pub empty : filled_from [] small_table ≡ filled_by small_table 0 Good
-  pub taken : table_in (filled_by small_table 8 Good) ≡ small_table
+  pub whole : filled_from (bytes_of_log small_log) empty_table ≡ filled_by small_table 8 (Ok tt)
+  pub left_over : filled_from (bytes_of_log small_log ++ (0 ∷ [])) empty_table ≡ filled_by small_table 8 (Err LogLeftOver)
+  pub broken_first : filled_from (bytes_of_log small_log ++ (bytes_of_log (broken ∷ small_log) ++ (0 ∷ []))) empty_table ≡ filled_by small_table 8 (Err RecordBroken)
+  pub empty : filled_from [] small_table ≡ filled_by small_table 0 (Ok tt)
+  pub taken : table_in (filled_by small_table 8 (Ok tt)) ≡ small_table
 
 -- lent with 65,534 weights in Monday's first hour: the first weight goes in, and 23 stops it at the second, also if the log breaks later; the refused
 -- record of the second hour does not go in
@@ -134,18 +130,18 @@ abbrev pub beyond_last : Table
 beyond_last = table_of nothing nothing (cell 1 (pos 9999990000001) 0)
 
 pub record LentAtTheEdges : Type 0 where
-  pub stops : filled_from (bytes_of_log small_log) nearly_full ≡ filled_by full 1 (Refused CountFull)
-  pub stops_ahead : filled_from (bytes_of_log (small_log ++ (broken ∷ []))) nearly_full ≡ filled_by full 1 (Refused CountFull)
-  pub enters : entered (weighing 600 1 0x11 0x51 0x02) nearly_full ≡ filled_by full 1 Good
-  pub full_now : entered (weighing 600 1 0x11 0x51 0x02) full ≡ filled_by full 0 (Refused CountFull)
-  pub second_hour : entered (weighing 3600 1 0x11 0x51 0x02) full_second ≡ filled_by full_second 0 (Refused CountFull)
-  pub second_day : entered (weighing 86400 1 0x11 0x51 0x02) full_second ≡ filled_by and_tuesday 1 Good
-  pub net_is_good : entered (weighing 600 2 0x11 0x51 0x02) full ≡ filled_by full 1 Good
-  pub broken_is_refused : entered broken full ≡ filled_by full 0 (Refused RecordBroken)
-  pub beyond_empty : filled_from [] beyond_last ≡ filled_by beyond_last 0 (Refused SumBeyond)
-  pub beyond_log : filled_from (bytes_of_log small_log) beyond_last ≡ filled_by beyond_last 0 (Refused SumBeyond)
-  pub beyond_broken : filled_from (bytes_of_log (broken ∷ [])) beyond_last ≡ filled_by beyond_last 0 (Refused SumBeyond)
-  pub beyond_record : entered (weighing 600 1 0x11 0x51 0x02) beyond_last ≡ filled_by beyond_last 0 (Refused SumBeyond)
+  pub stops : filled_from (bytes_of_log small_log) nearly_full ≡ filled_by full 1 (Err CountFull)
+  pub stops_ahead : filled_from (bytes_of_log (small_log ++ (broken ∷ []))) nearly_full ≡ filled_by full 1 (Err CountFull)
+  pub enters : entered (weighing 600 1 0x11 0x51 0x02) nearly_full ≡ filled_by full 1 (Ok tt)
+  pub full_now : entered (weighing 600 1 0x11 0x51 0x02) full ≡ filled_by full 0 (Err CountFull)
+  pub second_hour : entered (weighing 3600 1 0x11 0x51 0x02) full_second ≡ filled_by full_second 0 (Err CountFull)
+  pub second_day : entered (weighing 86400 1 0x11 0x51 0x02) full_second ≡ filled_by and_tuesday 1 (Ok tt)
+  pub net_is_good : entered (weighing 600 2 0x11 0x51 0x02) full ≡ filled_by full 1 (Ok tt)
+  pub broken_is_refused : entered broken full ≡ filled_by full 0 (Err RecordBroken)
+  pub beyond_empty : filled_from [] beyond_last ≡ filled_by beyond_last 0 (Err SumBeyond)
+  pub beyond_log : filled_from (bytes_of_log small_log) beyond_last ≡ filled_by beyond_last 0 (Err SumBeyond)
+  pub beyond_broken : filled_from (bytes_of_log (broken ∷ [])) beyond_last ≡ filled_by beyond_last 0 (Err SumBeyond)
+  pub beyond_record : entered (weighing 600 1 0x11 0x51 0x02) beyond_last ≡ filled_by beyond_last 0 (Err SumBeyond)
 
 -- ---- the edges of 31, 11, 8 and 23, for one record and its cell
 
@@ -177,48 +173,48 @@ CountsShown =
     ∷ met 600 9
     ∷ weighing 600 1 0x11 0x5A 0x02
     ∷ [])
-    ≡ counts_kind.Weight (pos 251000000)
-    ∷ counts_kind.Weight (negsuc 4999999)
-    ∷ counts_kind.Nothing
-    ∷ counts_kind.Nothing
-    ∷ counts_kind.Nothing
-    ∷ counts_kind.Met
-    ∷ counts_kind.Refused RecordBroken
-    ∷ counts_kind.Refused RecordBroken
+    ≡ Ok (counts_kind.Weight (pos 251000000))
+    ∷ Ok (counts_kind.Weight (negsuc 4999999))
+    ∷ Ok counts_kind.Nothing
+    ∷ Ok counts_kind.Nothing
+    ∷ Ok counts_kind.Nothing
+    ∷ Ok counts_kind.Met
+    ∷ Err RecordBroken
+    ∷ Err RecordBroken
     ∷ []
 
 pub record Asked : Type 0 where
   pub tenths : ℤ
   pub into : Cell
-  pub answer : Added
+  pub answer : Result Cell Refusal
 
-abbrev pub asked : ℤ → Cell → Added → Asked
+abbrev pub asked : ℤ → Cell → Result Cell Refusal → Asked
 asked tenths into answer = record { tenths = tenths; into = into; answer = answer }
 
 -- a weight more: 65,535 is reached and not passed; 31 goes before 8 and before 23, and 8 before 23; both ends of a sum
 abbrev pub weight_edges : List Asked
 weight_edges =
-    asked (pos 7) (cell 65534 (pos 0) 9) (added_kind.Cell (cell 65535 (pos 7) 9))
-    ∷ asked (pos 7) (cell 65535 (pos 0) 9) (added_kind.Refused CountFull)
-    ∷ asked (pos largest) (cell 1 (pos largest) 0) (added_kind.Cell (cell 2 (pos (2 * largest)) 0))
-    ∷ asked (neg_ℤ (pos largest)) (cell 1 (neg_ℤ (pos largest)) 0) (added_kind.Cell (cell 2 (neg_ℤ (pos (2 * largest))) 0))
-    ∷ asked (pos (largest + 1)) (cell 65535 (pos 0) 0) (added_kind.Refused FieldOutside)
-    ∷ asked (negsuc largest) (cell 0 (pos 0) 0) (added_kind.Refused FieldOutside)
-    ∷ asked (negsuc largest) (cell 0 (pos 5) 0) (added_kind.Refused SumBeyond)
-    ∷ asked (pos 7) (cell 65535 (pos (65535 * largest + 1)) 0) (added_kind.Refused SumBeyond)
+    asked (pos 7) (cell 65534 (pos 0) 9) (Ok (cell 65535 (pos 7) 9))
+    ∷ asked (pos 7) (cell 65535 (pos 0) 9) (Err CountFull)
+    ∷ asked (pos largest) (cell 1 (pos largest) 0) (Ok (cell 2 (pos (2 * largest)) 0))
+    ∷ asked (neg_ℤ (pos largest)) (cell 1 (neg_ℤ (pos largest)) 0) (Ok (cell 2 (neg_ℤ (pos (2 * largest))) 0))
+    ∷ asked (pos (largest + 1)) (cell 65535 (pos 0) 0) (Err FieldOutside)
+    ∷ asked (negsuc largest) (cell 0 (pos 0) 0) (Err FieldOutside)
+    ∷ asked (negsuc largest) (cell 0 (pos 5) 0) (Err SumBeyond)
+    ∷ asked (pos 7) (cell 65535 (pos (65535 * largest + 1)) 0) (Err SumBeyond)
     ∷ []
 
 pub record EdgesShown : Type 0 where
   pub weights : map (λ (row : Asked). with_weight row.tenths row.into) weight_edges ≡ map (λ (row : Asked). row.answer) weight_edges
   pub refused : map with_refused (cell 65535 (negsuc 6) 65534 ∷ cell 65534 (pos 0) 65535 ∷ cell 0 (pos 5) 65535 ∷ [])
-      ≡ added_kind.Cell (cell 65535 (negsuc 6) 65535) ∷ added_kind.Refused CountFull ∷ added_kind.Refused SumBeyond ∷ []
+      ≡ Ok (cell 65535 (negsuc 6) 65535) ∷ Err CountFull ∷ Err SumBeyond ∷ []
   pub full : number_of CountFull ≡ 23
   pub beyond : number_of SumBeyond ≡ 31
 
 -- ---- means
 
-abbrev pub fraction : ℤ → ℕ → Mean
-fraction upper lower = mean_as.Fraction (record { upper = upper; lower = pos lower })
+abbrev pub fraction : ℤ → ℕ → Result (Option Fraction) Refusal
+fraction upper lower = Ok (Some (record { upper = upper; lower = pos lower }))
 
 -- 6 over 4 is 3 over 2, and -6 over 4 is -3 over 2; a sum of 0 is 0 over 1; no weights are no readings, also where refusals were heard; a sum
 -- without weights is 31, and so is one beyond its count; and the three cells of the small log
@@ -241,11 +237,11 @@ MeansShown =
     ∷ fraction (negsuc 2) 2
     ∷ fraction (pos 0) 1
     ∷ fraction (pos 5) 7
-    ∷ mean_as.NoReadings
-    ∷ mean_as.Refused SumBeyond
+    ∷ Ok None
+    ∷ Err SumBeyond
     ∷ fraction (pos largest) 1
-    ∷ mean_as.Refused SumBeyond
+    ∷ Err SumBeyond
     ∷ fraction (pos 123000000) 1
-    ∷ mean_as.NoReadings
+    ∷ Ok None
     ∷ fraction (pos 0) 1
     ∷ []

@@ -1,15 +1,14 @@
 -- 02, request 7: "The clerk saw 60 tonnes typed from a screen with the overload light on." Every weight line that shows digits has a value, and that value
 -- is the digits'. A line is taken byte for byte, and read as a person reads it: by its blanks.
-use Rattle.std.specs.Prelude.{ℕ, zero, suc, ◌+◌, ◌*◌, ◌-◌, ◌^◌, ◌≡◌, Bool, true, false, cond, ◌&&◌, ◌||◌, List, [], ◌∷◌, leb, eqb, ℤ, length, get_or}
+use Rattle.std.specs.Prelude.{ℕ, zero, suc, ◌+◌, ◌*◌, ◌-◌, ◌^◌, ◌≡◌, Bool, true, false, cond, ◌&&◌, ◌||◌, List, [], ◌∷◌, leb, eqb, ℤ, length, get_or, Ok, Err, Option, Some}
 use Prim.Native.Char.{code}
 use Rattle.refusal.specs.declared.Refusal.{Refusal}
 use Rattle.refusal.specs.declared.Refusal.TheVariants.{Overloaded}
-use Rattle.refusal.specs.declared.Verdict.TheVariants as verdict_as
+use Rattle.refusal.specs.Numbers.{verdict_of}
 use Rattle.body.specs.declared.addresses.Address.{Address}
 use Rattle.line.specs.Listener.{Heard}
 use Rattle.weight.specs.declared.families.Family.{Family}
 use Rattle.weight.specs.declared.Reading.{Reading}
-use Rattle.weight.specs.declared.Value.TheVariants as value_as
 use Rattle.weight.specs.Tenths.{signed, value_of}
 use Rattle.codes.specs.declared.table.Load.{Load}
 use Rattle.entries.specs.declared.entries.Entry.{Entry}
@@ -72,10 +71,10 @@ value_shown text = signed (eqb (get_or (field 4 text) 0 0) (code "-")) (number_s
 -- ---- what a line tells of a reading
 
 pub record Tells (text : List ℕ) (reading : Reading) : Type 0 where
-  pub digits : shows_digits text ≡ true → value_of reading ≡ value_as.Tenths (value_shown text)
+  pub digits : shows_digits text ≡ true → value_of reading ≡ Ok (value_shown text)
   pub six : shows_digits text ≡ true → (length (field 5 text) ≡ 6) × (all_digits (field 5 text) ≡ true)
-  pub no_digits_lem : (why : Refusal) → value_of reading ≡ value_as.Refused why → shows_digits text ≡ false
-  pub hyphens : shows_digits text ≡ false → (field 5 text ≡ spelt "------") × (value_of reading ≡ value_as.Refused Overloaded)
+  pub no_digits_lem : (why : Refusal) → value_of reading ≡ Err why → shows_digits text ≡ false
+  pub hyphens : shows_digits text ≡ false → (field 5 text ≡ spelt "------") × (value_of reading ≡ Err Overloaded)
   -- the overload light is off beside digits and on beside hyphens
   pub light_off : shows_digits text ≡ true → field 8 text ≡ spelt "0"
   pub light_on : shows_digits text ≡ false → field 8 text ≡ spelt "1"
@@ -89,24 +88,24 @@ pub record WeightLine (text : List ℕ) (reading : Reading) : Type 0 where
 abbrev pub WeightLinesTell : Type 0
 WeightLinesTell =
     (number : ℕ) (load : Load) (address : Address) (reading : Reading) (room : List ℕ)
-    → (written_line number (entry_as.Weight load address reading) room).answer.verdict ≡ verdict_as.Good
-    → WeightLine (written_bytes (written_line number (entry_as.Weight load address reading) room)) reading
+    → verdict_of (written_line number (Some (entry_as.Weight load address reading)) room).answer ≡ Ok tt
+    → WeightLine (written_bytes (written_line number (Some (entry_as.Weight load address reading)) room)) reading
 
 -- and with each that is heard, on a line of any family
 abbrev pub HeardLinesTell : Type 0
 HeardLinesTell =
-    (family : Family) (heard : Heard) (load : Load) (address : Address) (reading : Reading) → entry_heard family heard ≡ entry_as.Weight load address reading
+    (family : Family) (heard : Heard) (load : Load) (address : Address) (reading : Reading) → entry_heard family heard ≡ Some (entry_as.Weight load address reading)
     → (number : ℕ) → WeightLine (line_of number (entry_heard family heard)) reading
 
 -- the other way round: a line whose second word is `weight` is that of a weight; the total's second word is a number
-pub record OfAWeight (entry : Entry) : Type 0 where
+pub record OfAWeight (entry : Option Entry) : Type 0 where
   pub load : Load
   pub address : Address
   pub reading : Reading
-  pub is : entry ≡ entry_as.Weight load address reading
+  pub is : entry ≡ Some (entry_as.Weight load address reading)
 
 abbrev pub OnlyWeightsSayWeight : Type 0
-OnlyWeightsSayWeight = (number : ℕ) (entry : Entry) → field 1 (line_of number entry) ≡ spelt "weight" → OfAWeight entry
+OnlyWeightsSayWeight = (number : ℕ) (entry : Option Entry) → field 1 (line_of number entry) ≡ spelt "weight" → OfAWeight entry
 
 abbrev pub TotalSaysNoWeight : Type 0
 TotalSaysNoWeight = (total weights refused : ℕ) → field 1 (total_of total weights refused) ≡ spelt "weight" → ⊥

@@ -2,11 +2,10 @@
 -- code to check in at most 255 bytes, each written with one or more FFs ahead and two or more behind, on one wire. Start listening at any
 -- byte. You get exactly the frames before whose first address byte you heard at least one FF since you joined, whole and in order, and no
 -- refusal. So two different lists never make the same wire."
-use Rattle.std.specs.Prelude.{ℕ, ◌+◌, ◌-◌, ◌%◌, ◌^◌, ◌≤◌, ◌≡◌, Bool, true, false, cond, ◌||◌, length, drop, replicate, T, eqb}
+use Rattle.std.specs.Prelude.{ℕ, ◌+◌, ◌-◌, ◌%◌, ◌^◌, ◌≤◌, ◌≡◌, Bool, true, false, cond, ◌||◌, length, drop, replicate, T, eqb, Ok}
 use mathlib.Core.List.{List, [], ◌∷◌, ◌++◌, map, flatten}
 use Rattle.std.proofs.Math.Seq.{slice}
 use Rattle.std.proofs.Math.Pow.{are_bytes}
-use Rattle.refusal.specs.declared.Verdict.TheVariants.{Good}
 use Rattle.body.specs.declared.addresses.Address.{Address}
 use Rattle.body.specs.Addresses.{legal}
 use Rattle.body.specs.Body.{longest, body_of, judged, judged_lent}
@@ -24,7 +23,7 @@ pub record Sent : Type 0 where
 -- "legal addresses, right check bytes and bodies .. in at most 255 bytes, each written with .. two or more [FFs] behind". The FFs behind one
 -- frame may be the only ones ahead of the next: the two share their delimiter. A body's numbers need not be bytes.
 pub record Shared (sent : Sent) : Type 0 where
-  pub good : judged sent.body ≡ Good
+  pub good : judged sent.body ≡ Ok tt
   pub most : length sent.body ≤ longest
   pub behind : 2 ≤ sent.behind
 
@@ -88,8 +87,8 @@ pub record RunsToCheck (body : List ℕ) : Type 0 where
 
 -- each such body is judged good, and a body of bytes that is judged good is such a body. So the demands ask no more of a frame than the user does
 pub record GoodExactly (body : List ℕ) : Type 0 where
-  pub each : RunsToCheck body → judged body ≡ Good
-  pub no_other : T (are_bytes body) → judged body ≡ Good → RunsToCheck body
+  pub each : RunsToCheck body → judged body ≡ Ok tt
+  pub no_other : T (are_bytes body) → judged body ≡ Ok tt → RunsToCheck body
 
 abbrev pub GoodBodies : Type 0
 GoodBodies = (body : List ℕ) → GoodExactly body
@@ -133,7 +132,7 @@ OfFrameRule = (body : List ℕ) → framed body ≡ on_wire (record { ahead = 1;
 
 -- what the frame rule writes reads back as that one frame; all the bytes written are counted
 abbrev pub ReadsBack : Type 0
-ReadsBack = (body : List ℕ) → judged_lent body ≡ Good → events fresh (framed body) ≡ frame (needed body) (length body) body ∷ []
+ReadsBack = (body : List ℕ) → judged_lent body ≡ Ok tt → events fresh (framed body) ≡ frame (needed body) (length body) body ∷ []
 
 -- ---- cuts
 

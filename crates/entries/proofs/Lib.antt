@@ -1,3 +1,3 @@
 pub mod Handed
-pub mod Listed
 pub mod OneAnswer
+pub mod Listed

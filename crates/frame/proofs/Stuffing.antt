@@ -8,6 +8,9 @@ use native.Mathlib.Omega.{arith}
 use borrow.Author.Tests.{eqb-true}
 use lib.Dec.{eqb}
 use lib.ListN.{length, length-append}
+use Rattle.std.specs.Prelude.{count_by, ◌==◌}
+use Rattle.std.proofs.lemmas.Grind.{common_steps}
+use Rattle.std.proofs.lemmas.Bool.Decides.{nat_tests}
 use Rattle.frame.specs.Stuffing.{stuffed_byte, stuffed, framed, count_ff, needed, unstuffed}
 
 -- a body in two parts stuffs part by part
@@ -72,3 +75,14 @@ unstuffed_stuffed (byte ∷ body) =
 -- two bodies never stuff alike
 pub stuffed_apart : (body other : List ℕ) → stuffed body ≡ stuffed other → body ≡ other
 stuffed_apart body other same = sym (unstuffed_stuffed body) ∙ ap unstuffed same ∙ unstuffed_stuffed other
+
+-- the FF bytes are counted by the library's word, and there are no more of them than bytes
+pub counted_ff : (body : List ℕ) → count_by (λ byte. byte == 0xFF) body ≡ count_ff body
+unfolding count_ff
+counted_ff [] = refl
+counted_ff (byte ∷ body) = grind (arith, common_steps, counted_ff body)
+
+pub few_ff : (body : List ℕ) → count_ff body ≤ length body
+unfolding count_ff
+few_ff [] = omega arith
+few_ff (byte ∷ body) = grind (arith, nat_tests, few_ff body)

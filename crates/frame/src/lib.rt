@@ -4,4 +4,4 @@
 
 mod writing;
 
-pub use writing::{Needed, room_needed, write};
+pub use writing::{room_needed, write};

@@ -1,24 +1,17 @@
 // Frame writing: one FF, the body, two FFs, and one FE after each FF inside the body.
-ghost use Rattle.std.specs.Prelude.{◌≡◌, ◌+◌, ◌≤◌, length};
+ghost use Rattle.std.specs.Prelude.{◌≡◌, ◌+◌, ◌≤◌, ◌==◌, length, count_by};
 ghost use Rattle.room.specs.Laying.{Laid};
 ghost use Rattle.room.specs.Writing.{Leaves};
 ghost use Rattle.body.specs.Addresses.{address_bytes, address_length};
 ghost use Rattle.body.specs.Body.{unchecked, body_of};
-ghost use Rattle.frame.specs.Stuffing.{stuffed_byte, stuffed, framed, count_ff, needed};
+ghost use Rattle.frame.specs.Stuffing.{stuffed_byte, stuffed, framed, needed};
 ghost use Rattle.frame.specs.Writing.{needed_for, written_frame};
 ghost use Rattle.frame.specs.Preparing.{Prepared};
 
 use body::{Address, LONGEST_BODY, address_length, legal};
 use check_byte::check_of;
-use refusal::{Refusal, Verdict};
-use room::{Written, lay, lay_byte, lay_low, refused_write};
-
-// The room that a frame needs, or the refusal that its address or its length earns.
-#[derive(Clone, Copy)]
-pub enum Needed {
-    Bytes(usize),
-    Refused(Refusal),
-}
+use refusal::Refusal;
+use room::{lay, lay_byte, lay_low};
 
 // The address as it stands on the wire, at the front of a room.
 fn put_address(address: Address, room: &mut [u8]) -> usize
@@ -50,23 +43,15 @@ fn assemble(address: Address, code: u8, data: &[u8], room: &mut [u8]) -> usize
     ensures { Laid 0 (body_of address code «data».now) room.old result room.new }
 {
     let end = put_unchecked(address, code, data, room);
-    let check = check_of(&room[0..end]);
+    let check = check_of(&room[..end]);
     lay_byte(check, room, end)
 }
 
 // The number of FF bytes in a body.
 fn count_ff(body: &[u8]) -> usize
-    ensures { (result ≡ count_ff body.now) × (result ≤ length body.now) }
+    ensures { result ≡ count_by (λ byte. byte == 0xFF) body.now }
 {
-    let mut count = 0;
-    let mut i = 0;
-    while i < body.len() {
-        if body[i] == 0xFF {
-            count += 1;
-        }
-        i += 1;
-    }
-    count
+    body.iter().filter(|byte| **byte == 0xFF).count()
 }
 
 // One byte of the body onto the wire; after an FF, one FE.
@@ -87,10 +72,8 @@ fn put_body(body: &[u8], room: &mut [u8], at: usize) -> usize
     ensures { Laid at (stuffed body.now) room.old result room.new }
 {
     let mut next = at;
-    let mut i = 0;
-    while i < body.len() {
-        next = put(body[i], room, next);
-        i += 1;
+    for byte in body {
+        next = put(*byte, room, next);
     }
     next
 }
@@ -114,23 +97,27 @@ fn body_length(address: Address, data: &[u8]) -> usize
 }
 
 // Judged 5, then 2. Then the body is made ready at the front of `body`, and the answer is the room that its frame needs.
-fn prepare(address: Address, code: u8, data: &[u8], body: &mut [u8]) -> Needed
-    requires { 255 ≤ length body.old }
+fn prepare(
+    address: Address,
+    code: u8,
+    data: &[u8],
+    body: &mut [u8; LONGEST_BODY],
+) -> Result<usize, Refusal>
     ensures { Prepared address code «data».now body.old result body.new }
 {
     if !legal(address) {
-        return Needed::Refused(Refusal::AddressIllegal);
+        return Err(Refusal::AddressIllegal);
     }
     if LONGEST_BODY < body_length(address, data) {
-        return Needed::Refused(Refusal::BodyLong);
+        return Err(Refusal::BodyLong);
     }
     let end = assemble(address, code, data, body);
-    let count = count_ff(&body[0..end]);
-    Needed::Bytes(end + 3 + count)
+    let count = count_ff(&body[..end]);
+    Ok(end + 3 + count)
 }
 
 // The room that the frame of an address, a code and data needs. Nothing is written.
-pub fn room_needed(address: Address, code: u8, data: &[u8]) -> Needed
+pub fn room_needed(address: Address, code: u8, data: &[u8]) -> Result<usize, Refusal>
     ensures { result ≡ needed_for address code «data».now }
 {
     let mut body = [0u8; LONGEST_BODY];
@@ -138,22 +125,14 @@ pub fn room_needed(address: Address, code: u8, data: &[u8]) -> Needed
 }
 
 // The frame of an address, a code and data into lent room. Judged 5, 2, 9.
-pub fn write(address: Address, code: u8, data: &[u8], room: &mut [u8]) -> Written
+pub fn write(address: Address, code: u8, data: &[u8], room: &mut [u8]) -> Result<usize, Refusal>
     ensures { Leaves (written_frame address code «data».now room.old) result room.new }
 {
     let mut body = [0u8; LONGEST_BODY];
-    match prepare(address, code, data, &mut body) {
-        Needed::Refused(why) => refused_write(why),
-        Needed::Bytes(needed) => {
-            let end = body_length(address, data);
-            if room.len() < needed {
-                return refused_write(Refusal::RoomShort);
-            }
-            let length = put_frame(&body[0..end], room);
-            Written {
-                verdict: Verdict::Good,
-                length,
-            }
-        }
+    let needed = prepare(address, code, data, &mut body)?;
+    let end = body_length(address, data);
+    if room.len() < needed {
+        return Err(Refusal::RoomShort);
     }
+    Ok(put_frame(&body[..end], room))
 }

@@ -1,10 +1,9 @@
 -- 02, request 6: what a cell holds, and what its sum must keep: "31 first, a lent cell whose sum, sign aside, is beyond its count times
 -- 9,999,990,000,000"; one weight or one refused record more: "23 when a count would pass 65,535".
-use Rattle.std.specs.Prelude.{ℕ, ◌+◌, ◌*◌, Bool, not, cond, leb, ltb, ℤ, pos, nat_abs, ◌+ℤ◌}
+use Rattle.std.specs.Prelude.{ℕ, ◌+◌, ◌*◌, Bool, not, cond, leb, ltb, ℤ, pos, nat_abs, ◌+ℤ◌, Result, Ok, Err}
 use Rattle.refusal.specs.declared.Refusal.TheVariants.{FieldOutside, CountFull, SumBeyond}
 use Rattle.hour_cell.specs.declared.cells.Cell.{Cell}
-use Rattle.hour_cell.specs.declared.adding.Added.{Added}
-use Rattle.hour_cell.specs.declared.adding.Added.TheVariants as added_kind
+use Rattle.refusal.specs.declared.Refusal.{Refusal}
 
 -- nothing was noted
 abbrev pub empty_cell : Cell
@@ -23,16 +22,16 @@ abbrev pub would_pass : ℕ → Bool
 would_pass count = ltb 65535 (count + 1)
 
 -- one weight more, and its value in the sum: 31, then 8 for a value that no weight has, then 23
-unfoldable pub with_weight : ℤ → Cell → Added
+unfoldable pub with_weight : ℤ → Cell → Result Cell Refusal
 with_weight tenths cell =
-    cond (not (sound cell)) (added_kind.Refused SumBeyond)
-    (cond (ltb largest (nat_abs tenths)) (added_kind.Refused FieldOutside)
-    (cond (would_pass cell.weights) (added_kind.Refused CountFull)
-    (added_kind.Cell (record { weights = cell.weights + 1; refused = cell.refused; sum = cell.sum +ℤ tenths }))))
+    cond (not (sound cell)) (Err SumBeyond)
+    (cond (ltb largest (nat_abs tenths)) (Err FieldOutside)
+    (cond (would_pass cell.weights) (Err CountFull)
+    (Ok (record { weights = cell.weights + 1; refused = cell.refused; sum = cell.sum +ℤ tenths }))))
 
 -- one refused record more: 31, then 23
-unfoldable pub with_refused : Cell → Added
+unfoldable pub with_refused : Cell → Result Cell Refusal
 with_refused cell =
-    cond (not (sound cell)) (added_kind.Refused SumBeyond)
-    (cond (would_pass cell.refused) (added_kind.Refused CountFull)
-    (added_kind.Cell (record { weights = cell.weights; refused = cell.refused + 1; sum = cell.sum })))
+    cond (not (sound cell)) (Err SumBeyond)
+    (cond (would_pass cell.refused) (Err CountFull)
+    (Ok (record { weights = cell.weights; refused = cell.refused + 1; sum = cell.sum })))

@@ -5,49 +5,34 @@ ghost use Rattle.hour_cell.specs.Cells.{with_weight, with_refused};
 use crate::cells::{Cell, LARGEST, is_sound, size_of};
 use refusal::Refusal;
 
-// No count passes this.
-const HIGHEST: u16 = 65_535;
-
-// The cell with one more in it, or why it stays as it was.
-#[derive(Clone, Copy)]
-pub enum Added {
-    Cell(Cell),
-    Refused(Refusal),
-}
-
-// One weight more, by its value. Judged 31, 8 for a value that no weight has, 23.
-pub fn add_weight(tenths: i64, cell: Cell) -> Added
+// One weight more, by its value. Judged 31, 8 for a value that no weight has, 23 where the count would pass 65,535.
+#[tactic(auto, unfolding(crate::specs::Cells::with_weight))]
+pub fn add_weight(tenths: i64, cell: Cell) -> Result<Cell, Refusal>
     ensures { result ≡ with_weight tenths cell }
 {
     if !is_sound(cell) {
-        return Added::Refused(Refusal::SumBeyond);
+        return Err(Refusal::SumBeyond);
     }
     if LARGEST < size_of(tenths) {
-        return Added::Refused(Refusal::FieldOutside);
+        return Err(Refusal::FieldOutside);
     }
-    if cell.weights == HIGHEST {
-        return Added::Refused(Refusal::CountFull);
-    }
-    Added::Cell(Cell {
-        weights: cell.weights + 1,
-        refused: cell.refused,
-        sum: cell.sum + tenths,
+    let weights = cell.weights.checked_add(1).ok_or(Refusal::CountFull)?;
+    let sum = cell.sum + tenths;
+    Ok(Cell {
+        weights,
+        sum,
+        ..cell
     })
 }
 
-// One refused record more. Judged 31, 23.
-pub fn add_refused(cell: Cell) -> Added
+// One refused record more. Judged 31, 23 where the count would pass 65,535.
+#[tactic(auto, unfolding(crate::specs::Cells::with_refused))]
+pub fn add_refused(cell: Cell) -> Result<Cell, Refusal>
     ensures { result ≡ with_refused cell }
 {
     if !is_sound(cell) {
-        return Added::Refused(Refusal::SumBeyond);
+        return Err(Refusal::SumBeyond);
     }
-    if cell.refused == HIGHEST {
-        return Added::Refused(Refusal::CountFull);
-    }
-    Added::Cell(Cell {
-        weights: cell.weights,
-        refused: cell.refused + 1,
-        sum: cell.sum,
-    })
+    let refused = cell.refused.checked_add(1).ok_or(Refusal::CountFull)?;
+    Ok(Cell { refused, ..cell })
 }

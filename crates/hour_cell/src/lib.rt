@@ -7,7 +7,7 @@ mod cells;
 mod counting;
 mod slots;
 
-pub use adding::{Added, add_refused, add_weight};
+pub use adding::{add_refused, add_weight};
 pub use cells::{Cell, is_sound, size_of};
 pub use counting::{CountsAs, counts_as};
 pub use slots::{Slot, slot_of};

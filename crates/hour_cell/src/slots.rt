@@ -8,20 +8,19 @@ const HOUR: u64 = 3_600;
 const DAY: u64 = 86_400;
 
 // A cell's place in the table.
-#[derive(Clone, Copy)]
+#[derive(Clone, Copy, Debug, PartialEq, Eq)]
 pub struct Slot {
     pub weekday: usize, // 0 Monday to 6 Sunday
     pub hour: usize, // 0 to 23
 }
 
 // The slot of a time in seconds.
+#[tactic(auto, unfolding(crate::specs::Slots::slot_of))]
 pub fn slot_of(time: u64) -> Slot
     ensures { result ≡ slot_of time }
 {
-    let weekday = time / DAY % 7;
-    let hour = time / HOUR % 24;
     Slot {
-        weekday: weekday as usize,
-        hour: hour as usize,
+        weekday: (time / DAY % 7) as usize,
+        hour: (time / HOUR % 24) as usize,
     }
 }

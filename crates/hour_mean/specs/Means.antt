@@ -1,12 +1,11 @@
 -- 02, request 6: "The mean is a fraction in lowest terms with a positive lower number; sum 0 gives 0 over 1; a cell with no weights answers "no
 -- readings" and never a zero." "31 first".
-use Rattle.std.specs.Prelude.{ℕ, zero, suc, ◌/◌, ◌%◌, Bool, cond, ◌&&◌, eqb, ℤ, pos, negsuc, neg_ℤ, nat_abs}
+use Rattle.std.specs.Prelude.{ℕ, zero, suc, ◌/◌, ◌%◌, Bool, cond, ◌&&◌, eqb, ℤ, pos, negsuc, neg_ℤ, nat_abs, Result, Ok, Err, Option, Some, None}
 use Rattle.refusal.specs.declared.Refusal.TheVariants.{SumBeyond}
 use Rattle.hour_cell.specs.declared.cells.Cell.{Cell}
 use Rattle.hour_cell.specs.Cells.{sound}
 use Rattle.hour_mean.specs.declared.Fraction.{Fraction}
-use Rattle.hour_mean.specs.declared.Mean.{Mean}
-use Rattle.hour_mean.specs.declared.Mean.TheVariants as mean_as
+use Rattle.refusal.specs.declared.Refusal.{Refusal}
 
 -- a number divides another without a remainder
 abbrev pub divides : ℕ → ℕ → Bool
@@ -34,8 +33,8 @@ lowest sum count = record {
 }
 
 -- 31 first; "a cell with no weights answers "no readings""
-unfoldable pub mean_of : Cell → Mean
+unfoldable pub mean_of : Cell → Result (Option Fraction) Refusal
 mean_of cell =
     cond (sound cell)
-    (cond (eqb cell.weights 0) mean_as.NoReadings (mean_as.Fraction (lowest cell.sum cell.weights)))
-    (mean_as.Refused SumBeyond)
+    (cond (eqb cell.weights 0) (Ok None) (Ok (Some (lowest cell.sum cell.weights))))
+    (Err SumBeyond)

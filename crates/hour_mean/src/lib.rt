@@ -4,27 +4,18 @@
 
 ghost use Rattle.std.specs.Prelude.{◌≡◌, ◌<◌};
 ghost use Rattle.hour_mean.specs.Means.{greatest_common, mean_of};
-ghost use Rattle.hour_mean.specs.declared.Mean.TheVariants as mean_as;
 
 use hour_cell::{Cell, is_sound, size_of};
 use refusal::Refusal;
 
 // An exact mean, in tenths of a milligram.
-#[derive(Clone, Copy)]
+#[derive(Clone, Copy, Debug, PartialEq, Eq)]
 pub struct Fraction {
     pub upper: i64,
     pub lower: i64, // 1 to 65,535
 }
 
-// What the weights of an hour come to.
-#[derive(Clone, Copy)]
-pub enum Mean {
-    Fraction(Fraction),
-    NoReadings,
-    Refused(Refusal),
-}
-
-// The greatest number that divides both, by Euclid: the remainder falls.
+// The greatest number that divides both, by Euclid as a recursion, the form that is expected here: the remainder falls.
 fn common(size: u64, count: u64) -> u64
     requires { 0 < count }
     ensures { result ≡ greatest_common size count }
@@ -36,33 +27,22 @@ fn common(size: u64, count: u64) -> u64
     common(count, left)
 }
 
-// A number over another.
-fn over(upper: i64, lower: i64) -> Mean
-    ensures { result ≡ mean_as.Fraction (record { upper = upper; lower = lower }) }
-{
-    Mean::Fraction(Fraction {
-        upper: upper,
-        lower: lower,
-    })
-}
-
 // The mean of a cell. Judged 31; a cell with no weights has no mean.
-pub fn mean_of(cell: Cell) -> Mean
+#[tactic(auto, unfolding(crate::specs::Means::mean_of))]
+pub fn mean_of(cell: Cell) -> Result<Option<Fraction>, Refusal>
     ensures { result ≡ mean_of cell }
 {
     if !is_sound(cell) {
-        return Mean::Refused(Refusal::SumBeyond);
+        return Err(Refusal::SumBeyond);
     }
     if cell.weights == 0 {
-        return Mean::NoReadings;
+        return Ok(None);
     }
-    let size = size_of(cell.sum);
-    let count = cell.weights as u64;
-    let shared = common(size, count);
-    let upper = (size / shared) as i64;
-    let lower = (count / shared) as i64;
-    if cell.sum < 0 {
-        return over(-upper, lower);
-    }
-    over(upper, lower)
+    let count = cell.weights;
+    let shared = common(size_of(cell.sum), u64::from(count)) as i64;
+    let mean = Fraction {
+        upper: cell.sum / shared,
+        lower: i64::from(count) / shared,
+    };
+    Ok(Some(mean))
 }

@@ -1,31 +1,33 @@
--- Shown: what the tests of `enter` and `fill` lead to is what the definitions answer there.
--- Why: each answer stands behind the tests that come before it in the definition.
-use mathlib.Core.Path.{◌≡◌, ap}
-use mathlib.Core.Bool.{true, false}
-use Rattle.refusal.specs.declared.Refusal.TheVariants.{SumBeyond}
+-- Shown: a record counts as one that went in exactly if it is not refused.
+-- Why: what it counts as, and the cell that it is added to, tell both at once.
+use Rattle.std.proofs.Common.{◌≡◌, refl, Result, Ok, Err, is_ok}
+use mir.Val.{bool_byte}
 use Rattle.records.specs.declared.records.Record.{Record}
-use Rattle.hour_cell.specs.declared.adding.Added.{Added}
+use Rattle.refusal.specs.declared.Refusal.{Refusal}
+use Rattle.hour_cell.specs.declared.cells.Cell.{Cell}
 use Rattle.hour_cell.specs.declared.counting.CountsAs.{CountsAs}
+use Rattle.hour_cell.specs.declared.counting.CountsAs.TheVariants.{Weight, Met, Nothing}
 use Rattle.hour_cell.specs.declared.slots.Slot.{Slot}
 use Rattle.hour_cell.specs.Slots.{slot_of}
+use Rattle.hour_cell.specs.Cells.{with_weight, with_refused}
 use Rattle.hour_cell.specs.Counting.{counts_as}
-use Rattle.hour_table.specs.Tables.{Table, sound_table}
-use Rattle.hour_table.specs.Filling.{stays, replaced_by, put_as, put, entered}
+use Rattle.hour_table.specs.declared.filled.Filled.{Filled}
+use Rattle.hour_table.specs.Tables.{Table, cell_at}
+use Rattle.hour_table.specs.Filling.{replaced_by, put_as, put}
 
-module _ (item : Record) (table : Table) where
-  -- by what the record counts as, with the slot as it was found
-  pub put_as_lem : {slot : Slot} {counts : CountsAs} → slot ≡ slot_of item.time → counts_as item ≡ counts → put_as counts slot table ≡ put item table
-  unfolding put
-  put_as_lem of e = rw (of, e)
+abbrev Counted : Filled → Type 0
+Counted filled = filled.records ≡ bool_byte (is_ok filled.verdict)
 
-  pub beyond : sound_table table ≡ false → stays table SumBeyond ≡ entered item table
-  unfolding entered
-  beyond s = rw s
+by_cell : (added : Result Cell Refusal) (slot : Slot) (cells : Table) → Counted (replaced_by added slot cells)
+by_cell (Ok cell) slot cells = refl
+by_cell (Err why) slot cells = refl
 
-  pub put_entered : sound_table table ≡ true → put item table ≡ entered item table
-  unfolding entered
-  put_entered s = rw s
+by_kind : (counts : Result CountsAs Refusal) (slot : Slot) (cells : Table) → Counted (put_as counts slot cells)
+by_kind (Ok (Weight tenths)) slot cells = by_cell (with_weight tenths (cell_at cells slot)) slot cells
+by_kind (Ok Met) slot cells = by_cell (with_refused (cell_at cells slot)) slot cells
+by_kind (Ok Nothing) slot cells = refl
+by_kind (Err why) slot cells = refl
 
--- the cell as it was answered
-pub replaced_by_lem : {added told : Added} (slot : Slot) (table : Table) → told ≡ added → replaced_by told slot table ≡ replaced_by added slot table
-replaced_by_lem slot table e = ap (λ (a : Added). replaced_by a slot table) e
+pub went_in : (item : Record) (cells : Table) → (put item cells).records ≡ bool_byte (is_ok (put item cells).verdict)
+unfolding put
+went_in item cells = by_kind (counts_as item) (slot_of item.time) cells

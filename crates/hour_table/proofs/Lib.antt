@@ -1,6 +1,5 @@
 pub mod Entered
 pub mod OneAnswer
 pub mod Poured
-pub mod Slots
 pub mod SoundTables
 pub mod TableField

@@ -1,14 +1,10 @@
 -- 02, request 6: "filled from a log read record by record"; "31 first, a lent cell ..; 10 and 11 as the log gives them; 23 when a count would pass
 -- 65,535; in all of these the table stays as before that record."
-use Rattle.std.specs.Prelude.{ℕ, ◌+◌, cond, List, [], ◌∷◌}
+use Rattle.std.specs.Prelude.{ℕ, ◌+◌, cond, List, [], ◌∷◌, drop, Result, Ok, Err}
 use Rattle.refusal.specs.declared.Refusal.{Refusal}
 use Rattle.refusal.specs.declared.Refusal.TheVariants.{SumBeyond}
-use Rattle.refusal.specs.declared.Verdict.{Verdict}
-use Rattle.refusal.specs.declared.Verdict.TheVariants.{Good, Refused}
 use Rattle.records.specs.declared.records.Record.{Record}
 use Rattle.records.specs.Stepping.{whole_log}
-use Rattle.hour_cell.specs.declared.adding.Added.{Added}
-use Rattle.hour_cell.specs.declared.adding.Added.TheVariants as added_kind
 use Rattle.hour_cell.specs.declared.slots.Slot.{Slot}
 use Rattle.hour_cell.specs.Slots.{slot_of}
 use Rattle.hour_cell.specs.declared.counting.CountsAs.{CountsAs}
@@ -17,6 +13,7 @@ use Rattle.hour_cell.specs.Cells.{with_weight, with_refused}
 use Rattle.hour_cell.specs.Counting.{counts_as}
 use Rattle.hour_table.specs.declared.filled.Filled.{Filled}
 use Rattle.hour_table.specs.Tables.{Table, cell_at, with_cell, sound_table}
+use Rattle.hour_cell.specs.declared.cells.Cell.{Cell}
 
 -- the table of an answer
 unfoldable pub table_in : Filled → Table
@@ -24,19 +21,19 @@ table_in filled = filled.table
 
 -- "in all of these the table stays as before that record"
 abbrev pub stays : Table → Refusal → Filled
-stays table why = record { table = table; records = 0; verdict = Refused why }
+stays table why = record { table = table; records = 0; verdict = Err why }
 
 -- a cell replaced, or the table as it was
-abbrev pub replaced_by : Added → Slot → Table → Filled
-replaced_by (added_kind.Cell cell) slot table = record { table = with_cell table slot cell; records = 1; verdict = Good }
-replaced_by (added_kind.Refused why) slot table = stays table why
+abbrev pub replaced_by : Result Cell Refusal → Slot → Table → Filled
+replaced_by (Ok cell) slot table = record { table = with_cell table slot cell; records = 1; verdict = Ok tt }
+replaced_by (Err why) slot table = stays table why
 
 -- by what a record counts as: what counts for nothing changes no cell and has gone in
-abbrev pub put_as : CountsAs → Slot → Table → Filled
-put_as (counts_kind.Weight tenths) slot table = replaced_by (with_weight tenths (cell_at table slot)) slot table
-put_as counts_kind.Met slot table = replaced_by (with_refused (cell_at table slot)) slot table
-put_as counts_kind.Nothing slot table = record { table = table; records = 1; verdict = Good }
-put_as (counts_kind.Refused why) slot table = stays table why
+abbrev pub put_as : Result CountsAs Refusal → Slot → Table → Filled
+put_as (Ok (counts_kind.Weight tenths)) slot table = replaced_by (with_weight tenths (cell_at table slot)) slot table
+put_as (Ok counts_kind.Met) slot table = replaced_by (with_refused (cell_at table slot)) slot table
+put_as (Ok counts_kind.Nothing) slot table = record { table = table; records = 1; verdict = Ok tt }
+put_as (Err why) slot table = stays table why
 
 -- a record into the cell of its time
 unfoldable pub put : Record → Table → Filled
@@ -47,14 +44,20 @@ unfoldable pub entered : Record → Table → Filled
 entered item table = cond (sound_table table) (put item table) (stays table SumBeyond)
 
 -- one record went in, and then others; nothing goes in behind a refusal
-abbrev pub followed : Verdict → Filled → Filled → Filled
-followed Good first rest = record { table = rest.table; records = first.records + rest.records; verdict = rest.verdict }
-followed (Refused why) first rest = first
+abbrev pub followed : Result (Unit {0}) Refusal → Filled → Filled → Filled
+followed (Ok tt) first rest = record { table = rest.table; records = first.records + rest.records; verdict = rest.verdict }
+followed (Err why) first rest = first
 
 -- the records of a log one behind the other, and then how the log ends
-unfoldable pub poured : List Record → Verdict → Table → Filled
+unfoldable pub poured : List Record → Result (Unit {0}) Refusal → Table → Filled
 poured [] ending table = record { table = table; records = 0; verdict = ending }
 poured (item ∷ items) ending table = followed (put item table).verdict (put item table) (poured items ending (put item table).table)
+
+-- what the rest of a log from a place makes of the cells, with the records that went in before
+unfoldable pub from_here : List ℕ → ℕ → ℕ → Table → Filled
+from_here log before place cells =
+    let rest : Filled = poured (whole_log (drop place log)).records (whole_log (drop place log)).ending cells in
+    record { table = rest.table; records = before + rest.records; verdict = rest.verdict }
 
 -- a log into a lent table: "31 first", also if the log is empty
 unfoldable pub filled_from : List ℕ → Table → Filled

@@ -5,6 +5,7 @@ ghost use Rattle.hour_table.specs.Tables.{empty_table, sound_row, sound_table};
 use hour_cell::{Cell, is_sound};
 
 // A table in which nothing was heard yet.
+#[tactic(auto, unfolding(crate::specs::Tables::empty_table))]
 pub fn empty_table() -> [[Cell; 24]; 7]
     ensures { result ≡ empty_table }
 {
@@ -13,34 +14,19 @@ pub fn empty_table() -> [[Cell; 24]; 7]
         refused: 0,
         sum: 0,
     };
-    let day = [nothing; 24];
-    [day; 7]
+    [[nothing; 24]; 7]
 }
 
 // Whether every cell of a day is sound.
-fn is_sound_row(row: [Cell; 24]) -> bool
-    ensures { result ≡ sound_row row }
+fn is_sound_row(row: &[Cell; 24]) -> bool
+    ensures { result ≡ sound_row row.now }
 {
-    let mut hour = 0;
-    while hour < 24 {
-        if !is_sound(row[hour]) {
-            return false;
-        }
-        hour += 1;
-    }
-    true
+    row.iter().all(|cell| is_sound(*cell))
 }
 
 // Whether every cell is sound; if not, it is refusal 31.
-pub(crate) fn is_sound_table(table: [[Cell; 24]; 7]) -> bool
-    ensures { result ≡ sound_table table }
+pub(crate) fn is_sound_table(table: &[[Cell; 24]; 7]) -> bool
+    ensures { result ≡ sound_table table.now }
 {
-    let mut weekday = 0;
-    while weekday < 7 {
-        if !is_sound_row(table[weekday]) {
-            return false;
-        }
-        weekday += 1;
-    }
-    true
+    table.iter().all(|row| is_sound_row(row))
 }

@@ -1,5 +1,6 @@
 -- Shown: the kilograms of the judged examples E3 and E4 and of a minus zero, none of an overloaded zero, and that one part in 2^54 would be too much to promise.
 -- Why: each side computes to the same.
+use Rattle.std.specs.Prelude.{Ok, Err}
 use Prim.Native.Nat.{◌^◌}
 use mathlib.Core.Path.{◌≡◌, refl}
 use mathlib.Core.Bool.{true, false}
@@ -12,27 +13,26 @@ use Rattle.refusal.specs.declared.Refusal.TheVariants.{FieldOutside, Overloaded}
 use Rattle.weight.specs.Bytes.{in_range}
 use Rattle.weight.specs.Tenths.{value_of}
 use Rattle.weight.proofs.Examples.{overloaded, e3_reading, e4_reading, minus_zero, e3_value, e4_value, minus_zero_value}
-use Rattle.kilograms.specs.declared.Kilograms.TheVariants.{Number, Refused}
 use Rattle.kilograms.specs.Rounded.{rounded, kilograms_of}
 use Rattle.kilograms.specs.Within.{Within}
 
 -- E3: the float nearest to 25.1, by its bits
-pub e3_kilograms : kilograms_of e3_reading ≡ Number (of_bits binary64 0x4039_1999_9999_999A)
+pub e3_kilograms : kilograms_of e3_reading ≡ Ok (of_bits binary64 0x4039_1999_9999_999A)
 unfolding kilograms_of rounded round units odd size span climb of_bits
 e3_kilograms = rw e3_value
 
 -- E4: minus a half, which is exact
-pub e4_kilograms : kilograms_of e4_reading ≡ Number (fin true 1 (negsuc 0))
+pub e4_kilograms : kilograms_of e4_reading ≡ Ok (fin true 1 (negsuc 0))
 unfolding kilograms_of rounded round units odd size span climb
 e4_kilograms = rw e4_value
 
-pub kilograms_of_minus_zero : kilograms_of minus_zero ≡ Number (fin false 0 (pos 0))
+pub kilograms_of_minus_zero : kilograms_of minus_zero ≡ Ok (fin false 0 (pos 0))
 unfolding kilograms_of rounded round units odd size span climb
 kilograms_of_minus_zero = rw minus_zero_value
 
 -- 02, request 7: nothing with the overload light on is no plus zero; and 8 comes before 24
 pub kilograms_of_an_overload :
-    map kilograms_of (overloaded 60000 0 ∷ overloaded 0 0 ∷ overloaded 0 8 ∷ []) ≡ Refused Overloaded ∷ Refused Overloaded ∷ Refused FieldOutside ∷ []
+    map kilograms_of (overloaded 60000 0 ∷ overloaded 0 0 ∷ overloaded 0 8 ∷ []) ≡ Err Overloaded ∷ Err Overloaded ∷ Err FieldOutside ∷ []
 unfolding kilograms_of value_of in_range
 kilograms_of_an_overload = refl
 

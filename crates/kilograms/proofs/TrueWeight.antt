@@ -1,5 +1,6 @@
 -- Shown: the kilograms of a reading lie within one part in 2^53 of its true weight and have its sign, and value 0 gives plus zero.
 -- Why: a value is at most 9,999,990,000,000, so its quotient is in the normal range and is rounded to the nearest float.
+use Rattle.std.specs.Prelude.{Ok}
 use Prim.Native.Nat.{ℕ, zero, suc, ◌^◌, ◌≤◌, zero-le}
 use mathlib.Core.Path.{◌≡◌, refl, ap, ◌∙◌}
 use mathlib.Core.Bool.{Bool, true, false}
@@ -8,10 +9,8 @@ use lib.Dec.{lit<, lit≤}
 use lib.IntN.{ℤ, pos, negsuc, nat_abs}
 use lib.Ieee.{Float, fin, binary64, low, round, size, units, odd, span, climb}
 use Rattle.weight.specs.declared.Reading.{Reading}
-use Rattle.weight.specs.declared.Value.TheVariants.{Tenths}
 use Rattle.weight.specs.Tenths.{value_of}
 use Rattle.weight.proofs.Values.{value_bound}
-use Rattle.kilograms.specs.declared.Kilograms.TheVariants.{Number}
 use Rattle.kilograms.specs.Rounded.{rounded, kilograms_of}
 use Rattle.kilograms.specs.Within.{NearTrueWeight, Within}
 use Rattle.kilograms.proofs.Rounding.{many, round_within}
@@ -33,16 +32,16 @@ near (pos (suc n)) h = above_zero false n h
 near (negsuc n) h = above_zero true n h
 
 -- the two laws of a reading's answer
-module _ (reading : Reading) (value : ℤ) (of_reading : value_of reading ≡ Tenths value) where
-  answer : kilograms_of reading ≡ Number (rounded value)
+module _ (reading : Reading) (value : ℤ) (of_reading : value_of reading ≡ Ok value) where
+  answer : kilograms_of reading ≡ Ok (rounded value)
   unfolding kilograms_of
   answer = rw of_reading
 
-  pub near_true_weight : (float : Float) → kilograms_of reading ≡ Number float → NearTrueWeight value float
+  pub near_true_weight : (float : Float) → kilograms_of reading ≡ Ok float → NearTrueWeight value float
   near_true_weight float e =
       let made = answer in
       let same : float ≡ rounded value = cc in
       rw same (near value (value_bound reading value of_reading))
 
-  pub plus_zero : value ≡ pos 0 → kilograms_of reading ≡ Number (fin false 0 (pos 0))
-  plus_zero e = answer ∙ ap Number (ap rounded e ∙ zero_gives_plus_zero)
+  pub plus_zero : value ≡ pos 0 → kilograms_of reading ≡ Ok (fin false 0 (pos 0))
+  plus_zero e = answer ∙ ap Ok (ap rounded e ∙ zero_gives_plus_zero)

@@ -6,27 +6,16 @@ ghost use Rattle.std.specs.Prelude.{◌≡◌};
 ghost use Rattle.kilograms.specs.Rounded.{kilograms_of};
 
 use refusal::Refusal;
-use weight::{Reading, Value};
-
-// A float of kilograms, or why there is none. A refused reading never becomes a weight of nothing.
-#[derive(Clone, Copy)]
-pub enum Kilograms {
-    Number(f64),
-    Refused(Refusal),
-}
+use weight::Reading;
 
 // Tenths of a milligram in a kilogram.
 const TENTHS: f64 = 10000000.0;
 
 // The value of a reading over 10,000,000, rounded once; or the value's refusal, 8 or 24: an overloaded bridge has no weight (02, request 7).
-pub fn kilograms_of(reading: Reading) -> Kilograms
+#[tactic(auto, unfolding(crate::specs::Rounded::kilograms_of), using(crate::proofs::Quotient::reading_castable, crate::proofs::Quotient::reading_quotient))]
+pub fn kilograms_of(reading: Reading) -> Result<f64, Refusal>
     ensures { result ≡ kilograms_of reading }
 {
-    match weight::value_of(reading) {
-        Value::Tenths(tenths) => {
-            let exact = tenths as f64;
-            Kilograms::Number(exact / TENTHS)
-        }
-        Value::Refused(why) => Kilograms::Refused(why),
-    }
+    let tenths = weight::value_of(reading)?;
+    Ok(tenths as f64 / TENTHS)
 }

@@ -1,27 +1,21 @@
 -- Shown: what the block feeder goes by: one byte taken, the next turn, the stop at an event, the end of the block; and what a block tells.
 -- Why: a block is fed byte by byte by its definition, and each byte is joined to the paper's listener.
-use Rattle.std.proofs.Common.{◌≡◌, ℕ, suc, ◌+◌, ◌<◌, ◌≤◌, Bool, true, false, cond, ltb, List, [], ◌∷◌, length, get_or, drop, sym, refl, ap, ◌∙◌, add-one, arith, drop_of_length-le, drop-cons, ltb-false, eq-eqb, ne_eqb}
+use Rattle.std.proofs.Common.{◌≡◌, ℕ, ◌+◌, ◌<◌, ◌≤◌, Bool, true, false, ltb, List, [], ◌∷◌, length, get_or, drop, sym, refl, ap, ◌∙◌, add-one, arith, drop_of_length-le, drop-cons, eq-eqb, Option, Some, None}
+use Rattle.std.specs.Prelude.{is_some}
 use Rattle.line.specs.declared.places.Place.{Place}
-use Rattle.line.specs.declared.places.Moved.{Moved}
+use Rattle.line.specs.declared.moving.Moved.{Moved}
 use Rattle.line.specs.declared.places.Event.{Event}
-use Rattle.line.specs.declared.places.Event.TheVariants.{Nothing, Frame, Refused}
+use Rattle.line.specs.declared.places.Event.TheVariants.{Frame, Refused}
 use Rattle.line.specs.declared.listening.Went.{Went}
 use Rattle.line.specs.declared.reading.Reader.{Reader}
 use Rattle.line.specs.declared.reading.Taken.{Taken}
 use Rattle.line.specs.declared.reading.Fed.{Fed}
 use Rattle.line.specs.Listener.{Heard, Listener, hear}
-use Rattle.line.specs.Readers.{listening, view, fresh_place, heard_as, taken, unless, fed_from, fed, or_else, first_heard, Takes, Feeds, fed_lent, went_of, Listens}
+use Rattle.line.specs.Readers.{listening, view, heard_as, taken, unless, fed_from, fed, or_else, first_heard, Takes, Feeds, fed_lent, went_of, Listens}
 use Rattle.line.specs.Steps.{sound_place, Keeps}
-use Rattle.line.proofs.Joined.{joined, told, step_length}
+use Rattle.line.proofs.Joined.{joined, told, over_full}
 
 -- ---- a state handed in with more than 255 kept
-
-pub sound_few : (place : Place) → (sound_place place).kept.0 ≤ 255
-sound_few place = by_count (ltb 255 place.kept.0) refl
-  where
-    by_count : (test : Bool) → ltb 255 place.kept.0 ≡ test → (cond test fresh_place place).kept.0 ≤ 255
-    by_count true over_long = omega arith
-    by_count false few = ltb-false 255 place.kept.0 few
 
 pub sound_view : (place : Place) (array : List ℕ) → listening (sound_place place) array ≡ listening place array
 unfolding listening
@@ -35,13 +29,13 @@ sound_view place array = by_count (ltb 255 place.kept.0) refl
 
 -- a step is a byte taken
 pub taken_is : (reader : Reader) (byte : ℕ) {moved : Moved} {left : List ℕ} → Keeps (hear (view reader) byte) reader.body moved left
-    → ◌≡◌ {A = Taken} (record { reader = record { place = moved.place; body = left }; event = moved.event }) (taken reader byte)
+    → ◌≡◌ {A = Taken} (record { reader = record { place = moved.place.place; body = left }; event = moved.event }) (taken reader byte)
 unfolding taken
-taken_is reader byte keeps = λ i. record { reader = record { place = (keeps.answer i).place; body = keeps.body i }; event = (keeps.answer i).event }
+taken_is reader byte keeps = λ i. record { reader = record { place = keeps.moved.place i; body = keeps.body i }; event = keeps.moved.event i }
 
 pub taken_full : (reader : Reader) (byte : ℕ) → length reader.body ≡ 255 → length (taken reader byte).reader.body ≡ 255
 unfolding taken
-taken_full reader byte full = step_length reader.place reader.body byte full (record { answer = refl; body = refl })
+taken_full reader byte full = over_full reader.place reader.body byte full
 
 -- the reader that a reader handed in is treated as
 abbrev pub soundly : Reader → Reader
@@ -58,35 +52,40 @@ unfolding fed_from
 fed_sound reader [] h = absurd (omega arith)
 fed_sound reader (byte ∷ block) h = rw (taken_sound reader byte)
 
+unless_some : (event : Option Event) (later stopped : Fed) → is_some event ≡ true → unless event later stopped ≡ stopped
+unless_some None later stopped e = cc
+unless_some (Some event) later stopped e = refl
+
+unless_none : (event : Option Event) (later stopped : Fed) → is_some event ≡ false → unless event later stopped ≡ later
+unless_none None later stopped e = refl
+unless_none (Some event) later stopped e = cc
+
+-- what holds of the rest of a block and of a stop here holds of both
+unless_either : (holds : Fed → Type 0) (event : Option Event) (later stopped : Fed) → holds later → holds stopped → holds (unless event later stopped)
+unless_either holds None later stopped l s = l
+unless_either holds (Some event) later stopped l s = s
+
 module _ (block : List ℕ) (reader : Reader) (used : ℕ) (more : used < length block) {t : Taken} (is : t ≡ taken reader (get_or block used 0)) where
   -- a byte that gives nothing, and the rest of the block
-  pub next_turn : t.event ≡ Nothing → fed_from (used + 1) t.reader (drop (used + 1) block) ≡ fed_from used reader (drop used block)
+  pub next_turn : is_some t.event ≡ false → fed_from (used + 1) t.reader (drop (used + 1) block) ≡ fed_from used reader (drop used block)
   unfolding fed_from
-  next_turn silent = rw (drop-cons block used 0 more, ← is, silent, add-one used)
+  next_turn silent = rw (drop-cons block used 0 more, ← is, add-one used) (sym (unless_none _ _ _ silent))
 
   -- a byte that gives an event is the last one taken
-  pub stop : (t.event ≡ Nothing → ⊥) → ◌≡◌ {A = Fed} (record { reader = t.reader; event = t.event; used = used + 1 }) (fed_from used reader (drop used block))
+  pub stop : is_some t.event ≡ true → ◌≡◌ {A = Fed} (record { reader = t.reader; event = t.event; used = used + 1 }) (fed_from used reader (drop used block))
   unfolding fed_from
-  stop spoken = rw (drop-cons block used 0 more, ← is) (spoken_case t.event refl)
-    where
-      last : Fed
-      last = record { reader = t.reader; event = t.event; used = used + 1 }
+  stop spoken = rw (drop-cons block used 0 more, ← is) (sym (unless_some _ _ _ spoken))
 
-      spoken_case : (event : Event) → t.event ≡ event → last ≡ unless t.event (fed_from (used + 1) t.reader (drop (suc used) block)) last
-      spoken_case Nothing e = absurd (spoken e)
-      spoken_case (Frame wire kept) e = rw e
-      spoken_case (Refused why wire kept) e = rw e
-
-pub at_end : (block : List ℕ) (reader : Reader) (used : ℕ) → length block ≤ used → ◌≡◌ {A = Fed} (record { reader = reader; event = Nothing; used = used }) (fed_from used reader (drop used block))
+pub at_end : (block : List ℕ) (reader : Reader) (used : ℕ) → length block ≤ used → ◌≡◌ {A = Fed} (record { reader = reader; event = None; used = used }) (fed_from used reader (drop used block))
 unfolding fed_from
 at_end block reader used h = rw (drop_of_length-le block h)
 
 -- what a block tells is what the paper's listener says first
-step_told : (event : Event) (reader : Reader) (later : Fed) (used : ℕ) (first rest : Heard) → heard_as event reader.body ≡ first → heard_as later.event later.reader.body ≡ rest
+step_told : (event : Option Event) (reader : Reader) (later : Fed) (used : ℕ) (first rest : Heard) → heard_as event reader.body ≡ first → heard_as later.event later.reader.body ≡ rest
     → heard_as (unless event later (record { reader = reader; event = event; used = used })).event (unless event later (record { reader = reader; event = event; used = used })).reader.body ≡ or_else first rest
-step_told Nothing reader later used first rest e f = f ∙ ap (λ (h : Heard). or_else h rest) e
-step_told (Frame wire kept) reader later used first rest e f = ap (λ (h : Heard). or_else h rest) e
-step_told (Refused why wire kept) reader later used first rest e f = ap (λ (h : Heard). or_else h rest) e
+step_told None reader later used first rest e f = f ∙ ap (λ (h : Heard). or_else h rest) e
+step_told (Some (Frame wire kept)) reader later used first rest e f = ap (λ (h : Heard). or_else h rest) e
+step_told (Some (Refused why wire kept)) reader later used first rest e f = ap (λ (h : Heard). or_else h rest) e
 
 pub fed_told : (used : ℕ) (reader : Reader) (block : List ℕ) → heard_as (fed_from used reader block).event (fed_from used reader block).reader.body ≡ first_heard (view reader) block
 unfolding fed_from first_heard
@@ -96,30 +95,24 @@ fed_told used reader (byte ∷ block) =
     (fed_told (used + 1) (taken reader byte).reader block ∙ ap (λ (l : Listener). first_heard l block) (joined reader byte))
 
 -- how far a block goes: on, and not past its end
-far : (event : Event) (later stopped : Fed) (most : ℕ) → later.used ≤ most → stopped.used ≤ most → (unless event later stopped).used ≤ most
-far Nothing later stopped most l s = l
-far (Frame wire kept) later stopped most l s = s
-far (Refused why wire kept) later stopped most l s = s
-
-near : (event : Event) (later stopped : Fed) (least : ℕ) → least ≤ later.used → least ≤ stopped.used → least ≤ (unless event later stopped).used
-near Nothing later stopped least l s = l
-near (Frame wire kept) later stopped least l s = s
-near (Refused why wire kept) later stopped least l s = s
-
 fed_inside : (used : ℕ) (reader : Reader) (block : List ℕ) → (fed_from used reader block).used ≤ used + length block
 unfolding fed_from
 fed_inside used reader [] = omega arith
-fed_inside used reader (byte ∷ block) = far (taken reader byte).event _ _ _ (omega (arith, fed_inside (used + 1) (taken reader byte).reader block)) (omega arith)
+fed_inside used reader (byte ∷ block) =
+    unless_either (λ (f : Fed). f.used ≤ used + length (byte ∷ block)) (taken reader byte).event _ _
+    (omega (arith, fed_inside (used + 1) (taken reader byte).reader block)) (omega arith)
 
 fed_forward : (used : ℕ) (reader : Reader) (block : List ℕ) → used ≤ (fed_from used reader block).used
 unfolding fed_from
 fed_forward used reader [] = omega arith
-fed_forward used reader (byte ∷ block) = near (taken reader byte).event _ _ _ (omega (arith, fed_forward (used + 1) (taken reader byte).reader block)) (omega arith)
+fed_forward used reader (byte ∷ block) =
+    unless_either (λ (f : Fed). used ≤ f.used) (taken reader byte).event _ _
+    (omega (arith, fed_forward (used + 1) (taken reader byte).reader block)) (omega arith)
 
 fed_on : (reader : Reader) (block : List ℕ) → 0 < length block → 0 < (fed reader block).used
 unfolding fed_from
 fed_on reader [] h = absurd (omega arith)
-fed_on reader (byte ∷ block) h = near (taken reader byte).event _ _ 1 (fed_forward 1 (taken reader byte).reader block) (omega arith)
+fed_on reader (byte ∷ block) h = unless_either (λ (f : Fed). 0 < f.used) (taken reader byte).event _ _ (fed_forward 1 (taken reader byte).reader block) (omega arith)
 
 -- the promise of a block, from its answer
 pub feeds : (reader : Reader) (block : List ℕ) {answered : Fed} → answered ≡ fed reader block → Feeds reader block answered
@@ -138,14 +131,9 @@ takes reader byte e = record { answer = e; told = rw e (told reader byte) }
 abbrev pub standing : Place → List ℕ → Reader
 standing place body = record { place = place; body = body }
 
-lent_full : (place : Place) (block before : List ℕ) → length before ≡ 255 → fed_lent place block before ≡ fed (standing place before) block
+pub lent_full : (place : Place) (block before : List ℕ) → length before ≡ 255 → fed_lent place block before ≡ fed (standing place before) block
 unfolding fed_lent
 lent_full place block before full = rw (eq-eqb (length before) 255 full)
-
-lent_other : (place : Place) (block before : List ℕ) → (length before ≡ 255 → ⊥)
-    → fed_lent place block before ≡ record { reader = standing place before; event = Nothing; used = 0 }
-unfolding fed_lent
-lent_other place block before other = rw (ne_eqb (length before) 255 other)
 
 -- a fed reader's array is as long as before
 fed_full : (used : ℕ) (reader : Reader) (block : List ℕ) → length reader.body ≡ 255 → length (fed_from used reader block).reader.body ≡ 255
@@ -153,15 +141,10 @@ unfolding fed_from
 fed_full used reader [] full = full
 fed_full used reader (byte ∷ block) full =
     let after = taken_full reader byte full in
-    long (taken reader byte).event _ _ (fed_full (used + 1) (taken reader byte).reader block after) after
-  where
-    long : (event : Event) (later stopped : Fed) → length later.reader.body ≡ 255 → length stopped.reader.body ≡ 255 → length (unless event later stopped).reader.body ≡ 255
-    long Nothing later stopped l s = l
-    long (Frame wire kept) later stopped l s = s
-    long (Refused why wire kept) later stopped l s = s
+    unless_either (λ (f : Fed). length f.reader.body ≡ 255) (taken reader byte).event _ _ (fed_full (used + 1) (taken reader byte).reader block after) after
 
--- the promise, from an answer where the array is full, and where it could not be
-pub listens : (place : Place) (block before : List ℕ) (next : Place) (event : Event) (used : ℕ) (left : List ℕ) → length before ≡ 255
+-- the promise, from an answer
+pub listens : (place : Place) (block before : List ℕ) (next : Place) (event : Option Event) (used : ℕ) (left : List ℕ) → length before ≡ 255
     → ◌≡◌ {A = Fed} (record { reader = standing next left; event = event; used = used }) (fed (standing place before) block)
     → Listens place block before (record { place = next; event = event; used = used }) left
 listens place block before next event used left full e =
@@ -175,18 +158,6 @@ listens place block before next event used left full e =
       inside = promise.inside;
       forward = λ _. promise.forward;
       full = λ _. ap (λ (f : Fed). length f.reader.body) e ∙ fed_full 0 reader block full;
-    }
-
-pub unlent : (place : Place) (block before : List ℕ) → (length before ≡ 255 → ⊥) → Listens place block before (record { place = place; event = Nothing; used = 0 }) before
-unlent place block before other =
-    let lent = sym (lent_other place block before other) in
-    record {
-      answer = ap went_of lent;
-      body = ap (λ (f : Fed). f.reader.body) lent;
-      told = λ full. absurd (other full);
-      inside = omega arith;
-      forward = λ full. absurd (other full);
-      full = λ full. absurd (other full);
     }
 
 -- a block heard with the array lent is a block fed

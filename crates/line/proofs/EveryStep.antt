@@ -1,12 +1,10 @@
 -- Shown: what holds of each kind of step holds of every step; and what each byte's event has, all events of any bytes have.
 -- Why: in each state the tests on a byte lead to one of seven kinds, and the events of some bytes are those of each byte in turn.
-use Rattle.std.proofs.Common.{◌≡◌, ℕ, ◌<◌, ◌≤◌, Bool, true, false, cond, eqb, ltb, ◌⊎◌, List, [], ◌∷◌, ◌++◌, length, refl, inl, inr, ltb-false, ltb-true}
+use Rattle.std.proofs.Common.{◌≡◌, ℕ, ◌<◌, ◌≤◌, Bool, true, false, cond, eqb, ltb, ◌⊎◌, List, [], ◌∷◌, ◌++◌, length, refl, inl, inr, ltb-false, ltb-true, Result, Ok, Err}
 use mathlib.Core.List.Memᴰ
 use mathlib.Core.List.{Memᴰ}
 use Rattle.refusal.specs.declared.Refusal.{Refusal}
 use Rattle.refusal.specs.declared.Refusal.TheVariants.{BodyLong, HeldBroken}
-use Rattle.refusal.specs.declared.Verdict.{Verdict}
-use Rattle.refusal.specs.declared.Verdict.TheVariants.{Good, Refused}
 use Rattle.body.specs.Body.{longest, judged}
 use Rattle.line.specs.Listener.{State, seeking, delimited, inside, held, Heard, nothing, frame, refused, Listener, Step, step, keep, ended, tick, hear_in, hear, heard_then, events}
 use Rattle.line.specs.Readers.{kept_of}
@@ -19,8 +17,8 @@ pub record EachKind (holds : Step → Type 0) (kept : List ℕ) (byte wire : ℕ
   pub keeps : (more : ℕ) → (more ≡ byte) ⊎ (more ≡ 0xFF) → length kept < longest → holds (step (inside (kept ++ (more ∷ []))) wire nothing)
   pub full : longest ≤ length kept → holds (step seeking wire (refused BodyLong wire longest))
   pub broken : holds (step seeking wire (refused HeldBroken wire (length kept)))
-  pub good : judged kept ≡ Good → holds (step delimited wire (frame wire (length kept) kept))
-  pub bad : (why : Refusal) → judged kept ≡ Refused why → holds (step delimited wire (refused why wire (length kept)))
+  pub good : judged kept ≡ Ok tt → holds (step delimited wire (frame wire (length kept) kept))
+  pub bad : (why : Refusal) → judged kept ≡ Err why → holds (step delimited wire (refused why wire (length kept)))
 
 module _ (holds : Step → Type 0) where
   pub either : (test : Bool) (x y : Step) → (test ≡ true → holds x) → (test ≡ false → holds y) → holds (cond test x y)
@@ -34,10 +32,10 @@ module _ (holds : Step → Type 0) where
         either (ltb (length kept) longest) _ _ (λ fits. each.keeps more which (ltb-true (length kept) longest fits))
         (λ no_room. each.full (ltb-false (length kept) longest no_room))
 
-    at_end : (verdict : Verdict) → judged kept ≡ verdict → holds (step delimited wire (ended verdict kept wire))
+    at_end : (verdict : Result (Unit {0}) Refusal) → judged kept ≡ verdict → holds (step delimited wire (ended verdict kept wire))
     unfolding ended
-    at_end Good e = each.good e
-    at_end (Refused why) e = each.bad why e
+    at_end (Ok tt) e = each.good e
+    at_end (Err why) e = each.bad why e
 
   pub every_state : (state : State) (byte wire : ℕ) → EachKind holds (kept_of state) byte wire → holds (hear_in state byte wire)
   unfolding hear_in
@@ -56,8 +54,8 @@ module _ (holds : Step → Type 0) where
 
 -- the same for what is told of a step alone
 pub every_told : (holds : Heard → Type 0) (listener : Listener) (byte : ℕ) → let kept = kept_of listener.state in let wire = tick listener.wire in
-    holds nothing → holds (refused BodyLong wire longest) → holds (refused HeldBroken wire (length kept)) → (judged kept ≡ Good → holds (frame wire (length kept) kept))
-    → ((why : Refusal) → judged kept ≡ Refused why → holds (refused why wire (length kept))) → holds (hear listener byte).event
+    holds nothing → holds (refused BodyLong wire longest) → holds (refused HeldBroken wire (length kept)) → (judged kept ≡ Ok tt → holds (frame wire (length kept) kept))
+    → ((why : Refusal) → judged kept ≡ Err why → holds (refused why wire (length kept))) → holds (hear listener byte).event
 every_told holds listener byte none full broken good bad =
     every_step (λ (s : Step). holds s.event) listener byte
     (record { empty = λ _ _. none; as_it_was = none; keeps = λ _ _ _. none; full = λ _. full; broken = broken; good = good; bad = bad })

@@ -7,11 +7,9 @@ use Rattle.room.proofs.Over.{over_length}
 use Rattle.line.specs.declared.places.Phase.{Phase}
 use Rattle.line.specs.declared.places.Phase.TheVariants.{Seeking, Delimited, Inside, Held}
 use Rattle.line.specs.declared.places.Place.{Place}
-use Rattle.line.specs.declared.places.Moved.{Moved}
 use Rattle.line.specs.declared.reading.Reader.{Reader}
 use Rattle.line.specs.Listener.{State, seeking, delimited, inside, held, frame, Listener, Step, tick, hear}
 use Rattle.line.specs.Readers.{state_of, listening, view, phase_of, kept_of, place_of, event_of, heard_as, taken}
-use Rattle.line.specs.Steps.{Keeps}
 use Rattle.line.proofs.EveryStep.{every_step}
 
 -- what a step's array and count can hold: few kept bytes, and the body of a frame just heard
@@ -92,13 +90,7 @@ pub told : (reader : Reader) (byte : ℕ) → heard_as (taken reader byte).event
 unfolding taken Fine
 told reader byte = (listening_fine reader.place reader.body byte).1
 
--- a step leaves few kept bytes, and an array as long as before
-pub step_few : (place : Place) (array : List ℕ) (byte : ℕ) {moved : Moved} {left : List ℕ} → Keeps (hear (listening place array) byte) array moved left → moved.place.kept.0 ≤ 255
+-- a step leaves an array as long as before
+pub over_full : (place : Place) (array : List ℕ) (byte : ℕ) → length array ≡ 255 → length (over (kept_of (hear (listening place array) byte).next.state) array) ≡ 255
 unfolding Fine
-step_few place array byte keeps = rw keeps.answer (listening_fine place array byte).0
-
-pub step_length : (place : Place) (array : List ℕ) (byte : ℕ) {moved : Moved} {left : List ℕ} → length array ≡ 255 → Keeps (hear (listening place array) byte) array moved left → length left ≡ 255
-unfolding Fine
-step_length place array byte {moved} {left} full keeps =
-    let few = (listening_fine place array byte).0 in
-    ap length keeps.body ∙ over_length (kept_of (hear (listening place array) byte).next.state) array (omega arith) ∙ full
+over_full place array byte full = over_length _ array (omega (arith, (listening_fine place array byte).0)) ∙ full

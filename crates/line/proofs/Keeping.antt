@@ -1,26 +1,19 @@
 -- Shown: the array and the count hold what the paper's listener keeps: a byte more, as many as before, or none.
 -- Why: the kept bytes stand at the array's front, so one more is a store behind them.
-use Rattle.std.proofs.Common.{◌≡◌, ℕ, suc, ◌+◌, ◌<◌, ◌≤◌, List, [], ◌∷◌, ◌++◌, length, take, drop, set, sym, refl, ap, ◌∙◌, append_assoc, add-one, arith, length-append, take-append-drop, length-take-le, le-ltb, lt-ltb}
+use Rattle.std.proofs.Common.{◌≡◌, ℕ, suc, ◌+◌, ◌<◌, ◌≤◌, List, [], ◌∷◌, ◌++◌, length, take, drop, set, sym, refl, ap, ◌∙◌, append_assoc, add-one, arith, length-append, length-take-le, le-ltb, lt-ltb, Some, None}
 use lib.Seq.{set_split}
-use Rattle.refusal.specs.declared.Refusal.{Refusal}
 use Rattle.refusal.specs.declared.Refusal.TheVariants.{BodyLong}
-use Rattle.refusal.specs.declared.Verdict.{Verdict}
-use Rattle.refusal.specs.declared.Verdict.TheVariants.{Good}
-use Rattle.refusal.specs.declared.Verdict.TheVariants as refusal_as
-use Rattle.body.specs.Body.{judged, judged_lent}
-use Rattle.body.proofs.Rebuilding.{lent_is}
 use Rattle.room.specs.Laying.{over}
 use Rattle.line.specs.declared.places.Phase.TheVariants.{Seeking, Inside}
-use Rattle.line.specs.declared.places.Event.TheVariants.{Nothing, Frame, Refused}
-use Rattle.line.specs.declared.places.Moved.{Moved}
-use Rattle.line.specs.Listener.{keep, ended}
-use Rattle.line.specs.Readers.{event_of}
-use Rattle.line.specs.Steps.{Keeps}
+use Rattle.line.specs.declared.places.Event.TheVariants.{Refused}
+use Rattle.line.specs.declared.places.Place.{Place}
+use Rattle.line.specs.declared.moving.Moved.{Moved}
+use Rattle.line.specs.Listener.{keep}
+use Rattle.line.specs.Steps.{MovesTo, Keeps, in_phase, none_kept}
 
-module _ (kept byte wire : ℕ) (body : List ℕ) where
-  -- the kept bytes laid over the array are the array
-  pub over_kept : kept ≤ length body → over (take kept body) body ≡ body
-  over_kept h = ap (λ (n : ℕ). take kept body ++ drop n body) (length-take-le kept body h) ∙ take-append-drop kept body
+module _ (place : Place) (byte : ℕ) (body : List ℕ) where
+  abbrev kept : ℕ
+  kept = place.kept.0
 
   -- with one byte more, they are the array with that byte stored
   more_length : kept ≤ length body → length (take kept body ++ (byte ∷ [])) ≡ kept + 1
@@ -32,39 +25,18 @@ module _ (kept byte wire : ℕ) (body : List ℕ) where
       ∙ ap (λ (n : ℕ). (take kept body ++ (byte ∷ [])) ++ drop n body) (sym (more_length (omega arith) ∙ add-one kept))
 
   -- a byte to keep, and the 256th
-  pub one_more : {answered : Moved} → kept < 255 → kept < length body
-      → answered ≡ record { place = record { phase = Inside; wire = record { 0 = wire }; kept = record { 0 = kept + 1 } }; event = Nothing }
-      → Keeps (keep (take kept body) byte wire) body answered (set body kept byte)
+  pub one_more : {answered : Moved} → kept < 255 → kept < length body → MovesTo (in_phase Inside (record place { kept = record { 0 = kept + 1 } })) None answered
+      → Keeps (keep (take kept body) byte place.wire.0) body answered (set body kept byte)
   unfolding keep
-  one_more h k e =
+  one_more h k moved =
       let count = length-take-le kept body (omega arith) in
       let room : length (take kept body) < 255 = omega arith in
-      rw (lt-ltb _ _ room)
-      (record {
-        answer = e ∙ ap (λ (n : ℕ). record { place = record { phase = Inside; wire = record { 0 = wire }; kept = record { 0 = n } }; event = Nothing }) (sym (more_length (omega arith)));
-        body = over_more k;
-      })
+      rw (lt-ltb _ _ room) (record { moved = rw (more_length (omega arith)) moved; body = over_more k })
 
-  pub too_many : {answered : Moved} → 255 ≤ kept → kept ≤ length body
-      → answered ≡ record { place = record { phase = Seeking; wire = record { 0 = wire }; kept = record { 0 = 0 } }; event = Refused BodyLong (record { 0 = wire }) (record { 0 = 255 }) }
-      → Keeps (keep (take kept body) byte wire) body answered body
+  pub too_many : {answered : Moved} → kept ≡ 255 → kept ≤ length body → MovesTo (in_phase Seeking (none_kept place)) (Some (Refused BodyLong place.wire place.kept)) answered
+      → Keeps (keep (take kept body) byte place.wire.0) body answered body
   unfolding keep
-  too_many h k e =
+  too_many h k moved =
       let count = length-take-le kept body k in
       let full : 255 ≤ length (take kept body) = omega arith in
-      rw (le-ltb _ _ full) (record { answer = e; body = refl })
-
-  -- a body that ended
-  -- the kept bytes are at most 255, so that 2 is not earned
-  at_its_end : {verdict : Verdict} → kept ≤ 255 → kept ≤ length body → verdict ≡ judged_lent (take kept body) → verdict ≡ judged (take kept body)
-  at_its_end few h e = e ∙ lent_is (take kept body) (rw (length-take-le kept body h) few)
-
-  pub ends_good : {verdict : Verdict} → kept ≤ 255 → kept ≤ length body → verdict ≡ judged_lent (take kept body) → verdict ≡ Good
-      → Frame (record { 0 = wire }) (record { 0 = kept }) ≡ event_of (ended (judged (take kept body)) (take kept body) wire)
-  unfolding ended
-  ends_good few h e good = rw (← at_its_end few h e, good, length-take-le kept body h)
-
-  pub ends_refused : {verdict : Verdict} (why : Refusal) → kept ≤ 255 → kept ≤ length body → verdict ≡ judged_lent (take kept body) → verdict ≡ refusal_as.Refused why
-      → Refused why (record { 0 = wire }) (record { 0 = kept }) ≡ event_of (ended (judged (take kept body)) (take kept body) wire)
-  unfolding ended
-  ends_refused why few h e bad = rw (← at_its_end few h e, bad, length-take-le kept body h)
+      rw (le-ltb _ _ full) (record { moved = rw (← h) moved; body = refl })

@@ -2,5 +2,4 @@ pub mod Blocks
 pub mod EveryStep
 pub mod Joined
 pub mod Keeping
-pub mod Moves
 pub mod OneAnswer

@@ -1,9 +1,7 @@
 -- 01, "The frame", "Listening has four states": the paper's listener, over lists of bytes. It knows nothing of how the reader keeps its bytes.
-use Rattle.std.specs.Prelude.{ℕ, ◌+◌, ◌%◌, ◌^◌, cond, List, [], ◌∷◌, ◌++◌, length, ◌==◌, nat_lt}
+use Rattle.std.specs.Prelude.{ℕ, ◌+◌, ◌%◌, ◌^◌, cond, List, [], ◌∷◌, ◌++◌, length, ◌==◌, nat_lt, Result, Ok, Err}
 use Rattle.refusal.specs.declared.Refusal.{Refusal}
 use Rattle.refusal.specs.declared.Refusal.TheVariants.{BodyLong, HeldBroken}
-use Rattle.refusal.specs.declared.Verdict.{Verdict}
-use Rattle.refusal.specs.declared.Verdict.TheVariants.{Good, Refused}
 use Rattle.body.specs.Body.{longest, judged}
 
 -- the four states; while a body is open, the bytes kept of it
@@ -44,9 +42,9 @@ unfoldable pub keep : List ℕ → ℕ → ℕ → Step
 keep kept byte wire = cond (nat_lt (length kept) longest) (step (inside (kept ++ (byte ∷ []))) wire nothing) (step seeking wire (refused BodyLong wire longest))
 
 -- a body has ended: the frame, or 1, 4, 5 in that order
-unfoldable pub ended : Verdict → List ℕ → ℕ → Heard
-ended Good body wire = frame wire (length body) body
-ended (Refused why) body wire = refused why wire (length body)
+unfoldable pub ended : Result (Unit {0}) Refusal → List ℕ → ℕ → Heard
+ended (Ok tt) body wire = frame wire (length body) body
+ended (Err why) body wire = refused why wire (length body)
 
 -- one byte in each of the four states; `wire` counts this byte already
 unfoldable pub hear_in : State → ℕ → ℕ → Step

@@ -1,12 +1,12 @@
 -- 01, "The frame": "The reader takes one byte at a time, and its state is handed in by value and handed back." A state stands for the
 -- paper's listener and becomes the listener's next state. The kept bytes stand at the front of an array of 255.
-use Rattle.std.specs.Prelude.{◌≡◌, ℕ, ◌+◌, ◌<◌, ◌≤◌, cond, List, [], ◌∷◌, length, take, replicate, ◌==◌, nat_lt}
+use Rattle.std.specs.Prelude.{◌≡◌, ℕ, ◌+◌, ◌<◌, ◌≤◌, cond, List, [], ◌∷◌, length, take, replicate, ◌==◌, nat_lt, Option, Some, None}
 use Rattle.room.specs.Laying.{over}
 use Rattle.body.specs.Body.{longest}
 use Rattle.line.specs.declared.places.Phase.{Phase}
 use Rattle.line.specs.declared.places.Phase.TheVariants.{Seeking, Delimited, Inside, Held}
 use Rattle.line.specs.declared.places.Event.{Event}
-use Rattle.line.specs.declared.places.Event.TheVariants.{Nothing, Frame, Refused}
+use Rattle.line.specs.declared.places.Event.TheVariants.{Frame, Refused}
 use Rattle.line.specs.declared.places.Place.{Place}
 use Rattle.line.specs.declared.listening.Went.{Went}
 use Rattle.line.specs.declared.reading.Reader.{Reader}
@@ -54,10 +54,10 @@ place_of listener = record {
 }
 
 -- an event without its body; the body stands in the state handed back
-abbrev pub event_of : Heard → Event
-event_of nothing = Nothing
-event_of (frame wire kept body) = Frame (record { 0 = wire }) (record { 0 = kept })
-event_of (refused why wire kept) = Refused why (record { 0 = wire }) (record { 0 = kept })
+abbrev pub event_of : Heard → Option Event
+event_of nothing = None
+event_of (frame wire kept body) = Some (Frame (record { 0 = wire }) (record { 0 = kept }))
+event_of (refused why wire kept) = Some (Refused why (record { 0 = wire }) (record { 0 = kept }))
 
 -- one byte: the listener's step. Its kept bytes stand at the front of the array, and every other byte of the array is as it stood
 unfoldable pub taken : Reader → ℕ → Taken
@@ -69,10 +69,10 @@ taken reader byte =
     }
 
 -- an event as the paper has it: a frame's body is read from the array of the state handed back
-abbrev pub heard_as : Event → List ℕ → Heard
-heard_as Nothing body = nothing
-heard_as (Frame wire kept) body = frame wire.0 kept.0 (take kept.0 body)
-heard_as (Refused why wire kept) body = refused why wire.0 kept.0
+abbrev pub heard_as : Option Event → List ℕ → Heard
+heard_as None body = nothing
+heard_as (Some (Frame wire kept)) body = frame wire.0 kept.0 (take kept.0 body)
+heard_as (Some (Refused why wire kept)) body = refused why wire.0 kept.0
 
 -- a promise: the whole answer of one byte, and that the body of a frame just heard can be read from it
 pub record Takes (reader : Reader) (byte : ℕ) (answered : Taken) : Type 0 where
@@ -81,13 +81,12 @@ pub record Takes (reader : Reader) (byte : ℕ) (answered : Taken) : Type 0 wher
 
 -- ---- a block, byte by byte: up to and with the first event, or to the block's end
 
-abbrev pub unless : Event → Fed → Fed → Fed
-unless Nothing later stopped = later
-unless (Frame wire kept) later stopped = stopped
-unless (Refused why wire kept) later stopped = stopped
+abbrev pub unless : Option Event → Fed → Fed → Fed
+unless None later stopped = later
+unless (Some event) later stopped = stopped
 
 unfoldable pub fed_from : ℕ → Reader → List ℕ → Fed
-fed_from used reader [] = record { reader = reader; event = Nothing; used = used }
+fed_from used reader [] = record { reader = reader; event = None; used = used }
 fed_from used reader (byte ∷ block) =
     unless (taken reader byte).event (fed_from (used + 1) (taken reader byte).reader block)
     (record { reader = (taken reader byte).reader; event = (taken reader byte).event; used = used + 1 })
@@ -125,7 +124,7 @@ pub record Feeds (reader : Reader) (block : List ℕ) (answered : Fed) : Type 0 
 unfoldable pub fed_lent : Place → List ℕ → List ℕ → Fed
 fed_lent place block before =
     cond (length before == longest) (fed (record { place = place; body = before }) block)
-    (record { reader = record { place = place; body = before }; event = Nothing; used = 0 })
+    (record { reader = record { place = place; body = before }; event = None; used = 0 })
 
 abbrev pub went_of : Fed → Went
 went_of answer = record { place = answer.reader.place; event = answer.event; used = answer.used }

@@ -3,6 +3,7 @@
 #![tactic(auto)]
 
 mod listening;
+mod moving;
 mod places;
 mod reading;
 

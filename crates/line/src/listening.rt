@@ -1,22 +1,14 @@
 // Listening without a copy. The place goes by value, and the 255 bytes beside it are lent. A poller and the listing loop over this.
-ghost use Rattle.std.specs.Prelude.{◌≡◌, length};
 ghost use Rattle.line.specs.Readers.{Listens};
 
 use crate::places::{Event, Place};
 
 // What a block gives a place: the next place, the first event, and how many bytes of the block were taken.
-#[derive(Clone, Copy)]
+#[derive(Clone, Copy, Debug, PartialEq, Eq)]
 pub struct Went {
     pub place: Place,
-    pub event: Event,
+    pub event: Option<Event>,
     pub used: usize,
-}
-
-fn size_of(body: &[u8; 255]) -> usize
-    ensures { result ≡ length body.now }
-{
-    let all: &[u8] = body;
-    all.len()
 }
 
 impl Place {
@@ -24,36 +16,29 @@ impl Place {
     pub fn listen(self, block: &[u8], body: &mut [u8; 255]) -> Went
         ensures { Listens self block.now body.old result body.new }
     {
-        if size_of(body) != 255 {
+        if block.is_empty() {
             return Went {
                 place: self,
-                event: Event::Nothing,
-                used: 0,
-            };
-        }
-        if block.len() == 0 {
-            return Went {
-                place: self,
-                event: Event::Nothing,
+                event: None,
                 used: 0,
             };
         }
         let mut place = self.sound();
-        let mut used = 0;
-        while used < block.len() {
-            let moved = place.step(block[used], body);
+        for (at, byte) in block.iter().enumerate() {
+            let moved = place.step(*byte, body);
             place = moved.place;
-            used += 1;
-            let event = moved.event;
-            if let Event::Nothing = event {
-                continue;
+            if moved.event.is_some() {
+                return Went {
+                    place: place.place,
+                    event: moved.event,
+                    used: at + 1,
+                };
             }
-            return Went { place, event, used };
         }
         Went {
-            place,
-            event: Event::Nothing,
-            used,
+            place: place.place,
+            event: None,
+            used: block.len(),
         }
     }
 }

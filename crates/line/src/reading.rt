@@ -15,14 +15,14 @@ pub struct Reader {
 #[derive(Clone, Copy)]
 pub struct Taken {
     pub reader: Reader,
-    pub event: Event,
+    pub event: Option<Event>,
 }
 
 // What a block gives: the next state, the first event, and how many bytes of the block were taken.
 #[derive(Clone, Copy)]
 pub struct Fed {
     pub reader: Reader,
-    pub event: Event,
+    pub event: Option<Event>,
     pub used: usize,
 }
 
@@ -41,14 +41,11 @@ impl Reader {
     pub fn take(mut self, byte: u8) -> Taken
         ensures { Takes self byte result }
     {
-        let place = self.place;
-        let moved = place.sound().step(byte, &mut self.body);
-        let next = moved.place;
-        let event = moved.event;
-        self.place = next;
+        let moved = self.place.sound().step(byte, &mut self.body);
+        self.place = moved.place.place;
         Taken {
             reader: self,
-            event,
+            event: moved.event,
         }
     }
 
@@ -56,14 +53,11 @@ impl Reader {
     pub fn feed(mut self, block: &[u8]) -> Fed
         ensures { Feeds self block.now result }
     {
-        let place = self.place;
-        let went = place.listen(block, &mut self.body);
-        let next = went.place;
-        let event = went.event;
-        self.place = next;
+        let went = self.place.listen(block, &mut self.body);
+        self.place = went.place;
         Fed {
             reader: self,
-            event,
+            event: went.event,
             used: went.used,
         }
     }

@@ -6,150 +6,91 @@
 
 #![tactic(auto)]
 
+ghost use Rattle.std.specs.Prelude.{◌≤◌, length, IfOk};
+
 mod outputs;
 mod page;
 mod telling;
 
-use outputs::Outputs;
-use page::flush;
+use outputs::{Cut, Outputs};
+use page::Page;
 use std::env::FillError;
 use std::fs::File;
 use std::io::Read;
 use std::rt::{Env, Files};
 use std::str;
-use telling::{Tally, list_block, tell_total};
-use weight::{Family, FamilyNamed};
+use telling::Tally;
+use weight::Family;
 
-// What is known between two blocks: whether more may follow, and whether nothing failed so far.
-#[derive(Clone, Copy)]
-struct Run {
-    tally: Tally,
-    more: bool,
-    whole: bool,
-}
-
-fn ended(tally: Tally, whole: bool) -> Run {
-    Run {
-        tally,
-        more: false,
-        whole,
-    }
-}
-
-fn went_on(tally: Tally) -> Run {
-    let whole = tally.page.whole;
-    Run {
-        tally,
-        more: whole,
-        whole,
-    }
-}
-
-fn shown(tally: Tally, page: &[u8], out: Outputs) -> Tally {
-    let mut next = tally;
-    let place = next.page;
-    let flushed = flush(place, page, out);
-    next.page = flushed;
-    next
-}
-
-// Lists what a read brought, to its end. A read that came back short shows all there is, since the line may be silent for long.
-fn list_read(
-    family: Family,
-    tally: Tally,
-    heard: &[u8],
-    is_short: bool,
-    page: &mut [u8],
-    out: Outputs,
-) -> Run {
-    let listed = list_block(family, tally, heard, page, out);
-    if is_short {
-        return went_on(shown(listed, page, out));
-    }
-    went_on(listed)
-}
-
-// One read of the capture. No more reads follow if the capture ended or could not be read.
-fn list_some(
+// One read of the capture, and how many bytes it brought. If it failed, the lines so far go out and nothing behind them.
+fn read_some(
     capture: &mut impl Read,
     name: &str,
-    family: Family,
-    tally: Tally,
     block: &mut [u8],
-    page: &mut [u8],
-    out: Outputs,
-) -> Run {
-    let count = match capture.read(block) {
-        Ok(count) => count,
+    page: &mut Page,
+) -> Result<usize, Cut>
+    ensures { IfOk result (λ n. n ≤ length block.new) }
+{
+    match capture.read(block) {
+        Ok(count) => Ok(count),
         Err(error) => {
-            out.fail(name, error);
-            return ended(tally, false);
+            let cut = page.out.fail(name, error);
+            page.flush()?;
+            Err(cut)
         }
-    };
-    if count == 0 {
-        return ended(tally, true);
     }
-    let is_short = count < block.len();
-    list_read(family, tally, &block[..count], is_short, page, out)
 }
 
 // A proved loop has to end, but nothing says that a capture ends. So the turns are counted up to a number that no run uses up.
+// A read that came back short shows all there is, since the line may be silent for long.
 fn list_all(
     capture: &mut impl Read,
     name: &str,
     family: Family,
     block: &mut [u8],
-    page: &mut [u8],
-    out: Outputs,
-) -> Run {
-    let mut run = Run {
-        tally: telling::fresh(),
-        more: true,
-        whole: true,
-    };
+    page: &mut Page,
+) -> Result<(), Cut> {
+    let mut tally = Tally::new(family);
     for _ in 0..u64::MAX {
-        let tally = run.tally;
-        let next = list_some(capture, name, family, tally, block, page, out);
-        run = next;
-        if !run.more {
+        let count = read_some(capture, name, block, page)?;
+        if count == 0 {
             break;
         }
+        tally.list_block(&block[..count], page)?;
+        if count < block.len() {
+            page.flush()?;
+        }
     }
-    run
+    tally.tell_total(page)
 }
 
 fn list(capture: &mut impl Read, name: &str, family: Family, out: Outputs) {
     let mut block = [0u8; 65536];
-    let mut page = [0u8; 65536];
-    let run = list_all(capture, name, family, &mut block, &mut page, out);
-    let tally = run.tally;
-    if run.whole {
-        tell_total(tally, &mut page, out);
-        return;
-    }
-    flush(tally.page, &page, out);
+    let mut room = [0u8; 65536];
+    let mut page = Page {
+        room: &mut room,
+        used: 0,
+        out,
+    };
+    let _ = list_all(capture, name, family, &mut block, &mut page);
 }
 
 fn list_file(rt: &impl Files, path: &str, family: Family, out: Outputs) {
     match File::open(rt, path) {
         Ok(mut capture) => list(&mut capture, path, family, out),
-        Err(error) => out.fail(path, error),
+        Err(error) => {
+            out.fail(path, error);
+        }
     }
 }
 
 // A family by the number of its document: three digits. No capture is of the plain family, which is that of old records.
-fn family_named(name: &[u8]) -> FamilyNamed {
-    if name.len() != 3 {
-        return FamilyNamed::Unknown;
-    }
-    if (name[0] != b'0') | (name[1] != b'0') {
-        return FamilyNamed::Unknown;
-    }
-    match name[2] {
-        b'0' => FamilyNamed::Family(Family::Of000),
-        b'1' => FamilyNamed::Family(Family::Of001),
-        b'2' => FamilyNamed::Family(Family::Of002),
-        _ => FamilyNamed::Unknown,
+fn family_named(name: &[u8]) -> Option<Family> {
+    match name {
+        b"000" => Some(Family::Of000),
+        b"001" => Some(Family::Of001),
+        b"002" => Some(Family::Of002),
+        _ => None,
     }
 }
 
@@ -172,8 +113,8 @@ fn main(rt: HostRuntime) {
     let mut name = [0u8; 4096];
     match rt.arg(1, &mut name) {
         Ok(length) => match family_named(&name[..length]) {
-            FamilyNamed::Family(family) => list_named(&rt, &mut input, family, out),
-            FamilyNamed::Unknown => out.say("the family is 000, 001 or 002"),
+            Some(family) => list_named(&rt, &mut input, family, out),
+            None => out.say("the family is 000, 001 or 002"),
         },
         Err(FillError::NotPresent) => list(&mut input, "standard input", Family::Of002, out),
         Err(FillError::TooLong) => out.say("the family: File name too long"),

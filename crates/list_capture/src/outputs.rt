@@ -3,6 +3,10 @@ use std::alloc::Global;
 use std::io;
 use std::io::{Stderr, Stdout};
 
+// The listing ends here. Standard error says why.
+#[derive(Clone, Copy, Debug, PartialEq, Eq)]
+pub(crate) struct Cut;
+
 #[derive(Clone, Copy)]
 pub(crate) struct Outputs {
     listing: Stdout,
@@ -19,14 +23,11 @@ impl Outputs {
         }
     }
 
-    // Writes all of the bytes to the listing, or says why not. True where they are written.
-    pub(crate) fn write(self, bytes: &[u8]) -> bool {
+    // Writes all of the bytes to the listing, or says why not.
+    pub(crate) fn write(self, bytes: &[u8]) -> Result<(), Cut> {
         match self.listing.write_all(bytes) {
-            Ok(()) => true,
-            Err(error) => {
-                self.fail("standard output", error);
-                false
-            }
+            Ok(()) => Ok(()),
+            Err(error) => Err(self.fail("standard output", error)),
         }
     }
 
@@ -36,7 +37,7 @@ impl Outputs {
     }
 
     // What failed, and why in the system's words. Its number of the error, which std puts behind them, is left out.
-    pub(crate) fn fail(self, what: &str, error: io::Error) {
+    pub(crate) fn fail(self, what: &str, error: io::Error) -> Cut {
         let _ = match format!(in self.alloc; "{error}") {
             Ok(text) => {
                 let why = before(text.as_str(), " (os error ");
@@ -44,13 +45,11 @@ impl Outputs {
             }
             Err(_) => eprintln!(self.reasons; "{what}: {error}"),
         };
+        Cut
     }
 }
 
 // The text in front of a mark, or all of it if the mark is not there.
 fn before<'a>(text: &'a str, mark: &str) -> &'a str {
-    match text.split_once(mark) {
-        Some((front, _)) => front,
-        None => text,
-    }
+    text.split_once(mark).map_or(text, |(front, _)| front)
 }

@@ -1,6 +1,6 @@
 -- Shown: how a number in decimal comes apart into its tens and its last digit, and how many digits it has.
 -- Why: a number below 2^64 has fewer digits than the definition allows it, so one digit more or less to go makes no difference.
-use Prim.Native.Nat.{ℕ, zero, suc, ◌+◌, ◌/◌, ◌%◌, ◌^◌, ◌≤◌, ◌<◌}
+use Prim.Native.Nat.{ℕ, zero, suc, ◌/◌, ◌%◌, ◌^◌, ◌≤◌, ◌<◌}
 use mathlib.Core.Path.{◌≡◌, ◌∙◌, ap, sym}
 use mathlib.Core.Bool.{Bool, true, false, cond}
 use mathlib.Core.List.{List, [], ◌∷◌, ◌++◌}
@@ -50,6 +50,3 @@ size_in (suc more) number = picked_size (ltb number 10) (digit number) (decimal_
 pub decimal_size : (number : ℕ) → (1 ≤ length (decimal number)) × (length (decimal number) ≤ 20)
 unfolding decimal
 decimal_size number = size_in 19 number
-
-pub tens_size : (number : ℕ) → 10 ≤ number → number < 2 ^ 64 → length (decimal number) ≡ length (decimal (number / 10)) + 1
-tens_size number h small = ap length (decimal_tens number h small) ∙ length-append (decimal (number / 10)) (digit (number % 10) ∷ [])

@@ -1,5 +1,6 @@
 -- Shown: the paper's listing of E3, E4 and the first of E6, heard one after another; and every text that can be spelt in two ways.
 -- Why: both sides of each equation compute to the same bytes.
+use Rattle.std.specs.Prelude.{Option, Some, None}
 use Prim.Native.Nat.{ℕ}
 use mathlib.Core.Path.{◌≡◌, refl}
 use mathlib.Core.Bool.{Bool, true, false}
@@ -21,7 +22,7 @@ use Rattle.codes.specs.Table.{line_in, line_of as rows_of, row_of}
 use Rattle.meaning.specs.Judging.{judged_code, judged_data, judged_message}
 use Rattle.message.specs.Reading.{message_of, read_message, read_if}
 use Rattle.entries.specs.declared.entries.Entry.{Entry}
-use Rattle.entries.specs.declared.entries.Entry.TheVariants.{Nothing, Weight, Message, Refused}
+use Rattle.entries.specs.declared.entries.Entry.TheVariants.{Weight, Message, Refused}
 use Rattle.listing.specs.Texts.{spelt, decimal_in, decimal}
 use Rattle.listing.specs.Lines.{line_of}
 use Rattle.entries.specs.Entries.{entry_heard}
@@ -50,10 +51,10 @@ silence family = refl
 
 pub record Listed : Type 0 where
   pub number : ℕ
-  pub entry : Entry
+  pub entry : Option Entry
   pub line : List ℕ
 
-abbrev lists_as : ℕ → Entry → List ℕ → Listed
+abbrev lists_as : ℕ → Option Entry → List ℕ → Listed
 lists_as number entry line = record { number = number; entry = entry; line = line }
 
 -- minus zero keeps its sign; an overloaded one shows hyphens for its digits
@@ -67,21 +68,21 @@ shown minus number over =
 
 abbrev pub lines : List Listed
 lines =
-    lists_as 18_446_744_073_709_551_615 (Weight Net (Serial 16_777_215) (overloaded Plain true)) (spelt "18446744073709551615 weight net 0:16777215 - ------ 7 0 1\n")
+    lists_as 18_446_744_073_709_551_615 (Some (Weight Net (Serial 16_777_215) (overloaded Plain true))) (spelt "18446744073709551615 weight net 0:16777215 - ------ 7 0 1\n")
     -- the last field is that of bit 5, by the family
-    ∷ lists_as 1 (Weight Net (Short 1) (overloaded Of000 true)) (spelt "1 weight net 1 - ------ 7 0 1 net\n")
-    ∷ lists_as 2 (Weight Net (Short 1) (overloaded Of000 false)) (spelt "2 weight net 1 - ------ 7 0 1 gross\n")
-    ∷ lists_as 3 (Weight Gross (Short 1) (overloaded Of001 true)) (spelt "3 weight gross 1 - ------ 7 0 1 scale1\n")
-    ∷ lists_as 4 (Weight Gross (Short 1) (overloaded Of001 false)) (spelt "4 weight gross 1 - ------ 7 0 1 scale0\n")
-    ∷ lists_as 5 (Weight Gross (Short 1) (overloaded Of002 true)) (spelt "5 weight gross 1 - ------ 7 0 1 net\n")
+    ∷ lists_as 1 (Some (Weight Net (Short 1) (overloaded Of000 true))) (spelt "1 weight net 1 - ------ 7 0 1 net\n")
+    ∷ lists_as 2 (Some (Weight Net (Short 1) (overloaded Of000 false))) (spelt "2 weight net 1 - ------ 7 0 1 gross\n")
+    ∷ lists_as 3 (Some (Weight Gross (Short 1) (overloaded Of001 true))) (spelt "3 weight gross 1 - ------ 7 0 1 scale1\n")
+    ∷ lists_as 4 (Some (Weight Gross (Short 1) (overloaded Of001 false))) (spelt "4 weight gross 1 - ------ 7 0 1 scale0\n")
+    ∷ lists_as 5 (Some (Weight Gross (Short 1) (overloaded Of002 true))) (spelt "5 weight gross 1 - ------ 7 0 1 net\n")
     -- minus zero without overload, and 60 tonnes with it
-    ∷ lists_as 6 (Weight Net (Short 1) (shown true 0 false)) (spelt "6 weight net 1 - 000000 0 1 0 gross\n")
-    ∷ lists_as 8 (Weight Gross (Short 1) (shown false 60000 true)) (spelt "8 weight gross 1 + ------ 0 1 1 gross\n")
-    ∷ lists_as 10 (Message (Serial 0) 0xA1) (spelt "10 message 0:0 A1\n")
-    ∷ lists_as 100 (Message (Short 253) 0x0F) (spelt "100 message 253 0F\n")
-    ∷ lists_as 9 (Refused BodyShort) (spelt "9 refused 1\n")
-    ∷ lists_as 0 (Refused RecordBroken) (spelt "0 refused 11\n")
-    ∷ lists_as 7 Nothing []
+    ∷ lists_as 6 (Some (Weight Net (Short 1) (shown true 0 false))) (spelt "6 weight net 1 - 000000 0 1 0 gross\n")
+    ∷ lists_as 8 (Some (Weight Gross (Short 1) (shown false 60000 true))) (spelt "8 weight gross 1 + ------ 0 1 1 gross\n")
+    ∷ lists_as 10 (Some (Message (Serial 0) 0xA1)) (spelt "10 message 0:0 A1\n")
+    ∷ lists_as 100 (Some (Message (Short 253) 0x0F)) (spelt "100 message 253 0F\n")
+    ∷ lists_as 9 (Some (Refused BodyShort)) (spelt "9 refused 1\n")
+    ∷ lists_as 0 (Some (Refused RecordBroken)) (spelt "0 refused 11\n")
+    ∷ lists_as 7 None []
     ∷ []
 
 pub lines_listed : map (λ (listed : Listed). line_of listed.number listed.entry) lines ≡ map (λ (listed : Listed). listed.line) lines

@@ -1,4 +1,3 @@
-pub mod Assembled
 pub mod Decimals
 pub mod Examples
 pub mod Handed

@@ -1,14 +1,14 @@
 -- 01, "Judged examples": the lines of a listing, "(event; address, or `0:` and the serial, in decimal; sign bit as + or -; digits; point;
 -- settled; overload)"; "Other messages list as `N message ADDRESS CODE`, the code in two capital hex digits; refusals 1 to 8 all as the third line."
 -- 02, request 4: "The listing adds one field at the end of a weight line"; request 7: "The listing prints six hyphens for the digits".
-use Rattle.std.specs.Prelude.{ℕ, Bool, true, false, cond, List, [], ◌∷◌, ◌++◌}
+use Rattle.std.specs.Prelude.{ℕ, Bool, true, false, cond, List, [], ◌∷◌, ◌++◌, Option, Some, None}
 use Rattle.refusal.specs.Numbers.{number_of}
 use Rattle.codes.specs.declared.table.Load.{Load}
 use Rattle.codes.specs.declared.table.Load.TheVariants.{Net, Gross}
 use Rattle.weight.specs.declared.Reading.{Reading}
 use Rattle.weight.specs.Families.{Called, plain_bit, key_code, net_mode, event, scale_number, reserved, terminal}
 use Rattle.entries.specs.declared.entries.Entry.{Entry}
-use Rattle.entries.specs.declared.entries.Entry.TheVariants.{Nothing, Weight, Message, Refused}
+use Rattle.entries.specs.declared.entries.Entry.TheVariants.{Weight, Message, Refused}
 use Rattle.listing.specs.Texts.{spelt, decimal, six_digits, one_digit, hex_byte, address_text, sign_byte, mark_byte}
 
 -- the rest of a line behind a field: one blank ahead of each further field, and a newline behind the last
@@ -50,11 +50,11 @@ abbrev pub reading_fields : Reading → List (List ℕ)
 reading_fields reading = (sign_byte reading.minus ∷ []) ∷ digits_field reading ∷ mark_fields reading
 
 -- the line of an entry; if nothing was heard, there is no line
-abbrev pub line_of : ℕ → Entry → List ℕ
-line_of number Nothing = []
-line_of number (Weight load address reading) = line (decimal number) (spelt "weight" ∷ load_text load ∷ address_text address ∷ reading_fields reading)
-line_of number (Message address code) = line (decimal number) (spelt "message" ∷ address_text address ∷ hex_byte code ∷ [])
-line_of number (Refused why) = line (decimal number) (spelt "refused" ∷ decimal (number_of why) ∷ [])
+abbrev pub line_of : ℕ → Option Entry → List ℕ
+line_of number None = []
+line_of number (Some (Weight load address reading)) = line (decimal number) (spelt "weight" ∷ load_text load ∷ address_text address ∷ reading_fields reading)
+line_of number (Some (Message address code)) = line (decimal number) (spelt "message" ∷ address_text address ∷ hex_byte code ∷ [])
+line_of number (Some (Refused why)) = line (decimal number) (spelt "refused" ∷ decimal (number_of why) ∷ [])
 
 -- "The total counts all events."
 abbrev pub total_of : ℕ → ℕ → ℕ → List ℕ

@@ -2,6 +2,7 @@
 
 #![tactic(auto)]
 
+mod assembly;
 mod pieces;
 mod writing;
 

@@ -4,4 +4,4 @@
 
 mod meaning;
 
-pub use meaning::{SaidWeight, Told, WeightOrNot, What, tell, weight_said};
+pub use meaning::{SaidWeight, What, tell, weight_said};

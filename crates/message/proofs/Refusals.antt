@@ -1,6 +1,7 @@
 -- Shown: what holds of 1, 4 and 5 holds of every refusal at a body's end, and so with 2 for a lent body, and with 6, 7, 8 for a message. Of 5 it has to
 -- hold only where the address is not legal.
 -- Why: each test refuses with its own number, and the first that holds decides.
+use Rattle.std.specs.Prelude.{Result, Ok, Err}
 use Prim.Native.Nat.{ℕ}
 use mathlib.Core.Path.{◌≡◌, ◌∙◌, refl, sym, subst}
 use mathlib.Core.Bool.{Bool, true, false, not}
@@ -10,8 +11,6 @@ use lib.Dec.{ltb, eqb}
 use lib.ListN.{length}
 use Rattle.refusal.specs.declared.Refusal.{Refusal}
 use Rattle.refusal.specs.declared.Refusal.TheVariants.{BodyShort, BodyLong, CheckWrong, AddressIllegal, CodeUnknown, LengthWrong, FieldOutside}
-use Rattle.refusal.specs.declared.Verdict.{Verdict}
-use Rattle.refusal.specs.declared.Verdict.TheVariants.{Good, Refused}
 use Rattle.refusal.specs.Numbers.{number_of, line_status, refuse_if}
 use Rattle.refusal.proofs.Verdicts.{verdict_refused}
 use Rattle.check_byte.specs.Register.{received}
@@ -23,25 +22,24 @@ use Rattle.codes.specs.Table.{row_of, in_table}
 use Rattle.codes.specs.Lengths.{length_of, length_right}
 use Rattle.meaning.specs.Fields.{fields_right}
 use Rattle.meaning.specs.Judging.{judged_code, judged_then, judged_data, judged_message}
-use Rattle.message.specs.declared.reading.Received.TheVariants as received_as
 use Rattle.message.specs.Reading.{judged_body, read_message}
 use Rattle.message.proofs.Checked.{in_order, read_so, received_tells}
 
 module _ (holds : Refusal → Type 0) where
   -- what a verdict refuses with
-  OfRefusal : Verdict → Type 0
-  OfRefusal Good = Unit {0}
-  OfRefusal (Refused why) = holds why
+  OfRefusal : Result (Unit {0}) Refusal → Type 0
+  OfRefusal (Ok tt) = Unit {0}
+  OfRefusal (Err why) = holds why
 
-  refusing : (test : Bool) (why : Refusal) (after : Verdict) → (test ≡ true → holds why) → OfRefusal after → OfRefusal (refuse_if test why after)
+  refusing : (test : Bool) (why : Refusal) (after : Result (Unit {0}) Refusal) → (test ≡ true → holds why) → OfRefusal after → OfRefusal (refuse_if test why after)
   unfolding OfRefusal
   refusing true why after first rest = first refl
   refusing false why after first rest = rest
 
-  one_then : (first second : Verdict) → OfRefusal first → OfRefusal second → OfRefusal (judged_then first second)
+  one_then : (first second : Result (Unit {0}) Refusal) → OfRefusal first → OfRefusal second → OfRefusal (judged_then first second)
   unfolding OfRefusal
-  one_then Good second p q = q
-  one_then (Refused why) second p q = p
+  one_then (Ok tt) second p q = q
+  one_then (Err why) second p q = p
 
   module _ (body : List ℕ) (one : holds BodyShort) (four : holds CheckWrong) (five : legal (address_in body) ≡ false → holds AddressIllegal) where
     at_end : OfRefusal (judged body)
@@ -51,7 +49,7 @@ module _ (holds : Refusal → Type 0) where
         refusing (short body) _ _ (λ _. one)
         (refusing (not (eqb (received body) 0)) _ _ (λ _. four) (refusing (not legal_address) _ _ (λ illegal. five (not-true legal_address illegal)) tt))
 
-    pub end_refuses : (why : Refusal) → judged body ≡ Refused why → holds why
+    pub end_refuses : (why : Refusal) → judged body ≡ Err why → holds why
     unfolding OfRefusal
     end_refuses why e = subst OfRefusal e at_end
 
@@ -69,10 +67,10 @@ module _ (holds : Refusal → Type 0) where
           rw (in_order role family body)
           (one_then (judged_lent body) _ (refusing (ltb longest (length body)) _ _ (λ _. two) at_end) (of_message role family (code_in body) (data_in body)))
 
-      pub message_refuses : (role : Role) (family : Family) (why : Refusal) → read_message role family body ≡ received_as.Refused why → holds why
+      pub message_refuses : (role : Role) (family : Family) (why : Refusal) → read_message role family body ≡ Err why → holds why
       unfolding OfRefusal
       message_refuses role family why e = subst OfRefusal (verdict_refused received_tells (judged_body role family body) _ why (sym (read_so role family body) ∙ e)) (of_body_lem role family)
 
 -- so each of them is a refusal that a line can meet
-pub message_met : (role : Role) (family : Family) (body : List ℕ) (why : Refusal) → read_message role family body ≡ received_as.Refused why → line_status (number_of why) ≡ true
+pub message_met : (role : Role) (family : Family) (body : List ℕ) (why : Refusal) → read_message role family body ≡ Err why → line_status (number_of why) ≡ true
 message_met role family body = message_refuses (λ (why : Refusal). line_status (number_of why) ≡ true) body refl refl (λ _. refl) refl refl refl refl role family

@@ -5,5 +5,5 @@
 mod reading;
 mod writing;
 
-pub use reading::{Message, Received, read, read_without_check};
+pub use reading::{Message, read, read_without_check};
 pub use writing::write;

@@ -4,12 +4,12 @@ ghost use Rattle.message.specs.Writing.{written_message};
 
 use body::{Address, legal};
 use codes::Role;
-use meaning::{Told, tell};
+use meaning::tell;
 use refusal::Refusal;
-use room::{Written, refused_write};
 use weight::Family;
 
 // Writes the frame of a message into lent room. Judged 5, 6, 7, 8, 2, 9.
+#[tactic(auto, unfolding(crate::specs::Writing::written_message, crate::specs::Writing::judged_message_write, meaning::specs::Judging::told, frame::specs::Writing::written_frame, frame::specs::Writing::judged_write, frame::specs::Writing::judged_fields))]
 pub fn write(
     role: Role,
     family: Family,
@@ -17,14 +17,12 @@ pub fn write(
     code: u8,
     data: &[u8],
     room: &mut [u8],
-) -> Written
+) -> Result<usize, Refusal>
     ensures { Leaves (written_message role family address code «data».now room.old) result room.new }
 {
     if !legal(address) {
-        return refused_write(Refusal::AddressIllegal);
+        return Err(Refusal::AddressIllegal);
     }
-    match tell(role, family, address, code, data) {
-        Told::Refused(why) => refused_write(why),
-        Told::What(_) => frame::write(address, code, data, room),
-    }
+    tell(role, family, address, code, data)?;
+    frame::write(address, code, data, room)
 }

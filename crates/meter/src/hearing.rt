@@ -1,54 +1,53 @@
 // Listening, byte by byte and block by block. Both places of each event go into the sum, and so does the number of a refusal.
-use crate::tally::{Counts, Tally, good, refused};
-use line::{BodyPlace, Event, WirePlace};
-use refusal::number;
-use std::num::wrapping_add_u64;
+use crate::tally::{Counts, Tally};
+use line::{BodyPlace, Event, Taken, WirePlace};
 
 fn places(wire: WirePlace, kept: BodyPlace) -> u64 {
-    wrapping_add_u64(wire.0, kept.0 as u64)
+    wire.0.wrapping_add(kept.0 as u64)
 }
 
-fn counted(counts: Counts, event: Event) -> Counts {
+fn add(counts: &mut Counts, event: Option<Event>) {
     match event {
-        Event::Nothing => counts,
-        Event::Frame(wire, kept) => good(counts, places(wire, kept)),
-        Event::Refused(why, wire, kept) => {
-            let sum = wrapping_add_u64(places(wire, kept), number(why) as u64);
-            refused(counts, sum)
+        None => {}
+        Some(Event::Frame(wire, kept)) => counts.add_good(places(wire, kept)),
+        Some(Event::Refused(why, wire, kept)) => counts.add_refused(why, places(wire, kept)),
+    }
+}
+
+impl Tally {
+    // Takes a block to its end. The reader is handed in and out by value with each byte.
+    pub(crate) fn take_bytes(&mut self, block: &[u8]) {
+        let Tally {
+            mut reader,
+            mut counts,
+        } = *self;
+        for byte in block {
+            let Taken {
+                reader: next,
+                event,
+            } = reader.take(*byte);
+            reader = next;
+            add(&mut counts, event);
         }
+        *self = Tally { reader, counts };
     }
-}
 
-// Takes a block to its end. The reader is handed in and out by value with each byte.
-pub(crate) fn take_bytes(tally: Tally, block: &[u8]) -> Tally {
-    let mut counts = tally.counts;
-    let mut reader = tally.reader;
-    let mut at = 0;
-    while at < block.len() {
-        let taken = reader.take(block[at]);
-        let next = taken.reader;
-        reader = next;
-        let event = taken.event;
-        counts = counted(counts, event);
-        at += 1;
+    // Takes a block to its end, event by event. The reader is taken apart once.
+    pub(crate) fn listen(&mut self, block: &[u8]) {
+        let Tally {
+            mut reader,
+            mut counts,
+        } = *self;
+        let mut place = reader.place;
+        let mut rest = block;
+        // Each turn goes on by an event and not by a byte, so there is a measure and no `for`.
+        while !rest.is_empty() {
+            let went = place.listen(rest, &mut reader.body);
+            place = went.place;
+            rest = &rest[went.used..];
+            add(&mut counts, went.event);
+        }
+        reader.place = place;
+        *self = Tally { reader, counts };
     }
-    Tally { reader, counts }
-}
-
-// Takes a block to its end, event by event. The reader is taken apart once.
-pub(crate) fn listen(tally: Tally, block: &[u8]) -> Tally {
-    let mut counts = tally.counts;
-    let mut reader = tally.reader;
-    let mut place = reader.place;
-    let mut at = 0;
-    while at < block.len() {
-        let went = place.listen(&block[at..], &mut reader.body);
-        let next = went.place;
-        place = next;
-        let event = went.event;
-        at += went.used;
-        counts = counted(counts, event);
-    }
-    reader.place = place;
-    Tally { reader, counts }
 }

@@ -1,5 +1,5 @@
 // The check of a parcel scale's message (02, request 5; 003, section 4.1): a register of sixteen bits that the body's bytes enter top bit first. A body
-// enters four bytes at a go.
+// enters four bytes at a go. The twin of `check_byte`: both go by the laws of `register`, but each folds in its own way, and a trait of the two would outgrow their loops.
 //
 // A wide number stands for the register that its bits make of an empty one. Under 11021h thirty-two zero bits make of a register what twenty-four, ten and
 // none make of it, folded together, and sixteen what twelve, five and none make of it. That is how what stands above 32 or 16 bits is folded in below.
@@ -7,13 +7,12 @@
 
 #![tactic(auto)]
 
-ghost use Rattle.std.specs.Prelude.{◌≡◌, length, drop, ◌<◌, ◌+◌, ◌*◌, ◌%◌};
+ghost use Rattle.std.specs.Prelude.{◌≡◌, length, ◌<◌, ◌*◌};
 ghost use Rattle.register.specs.Register.{all_in};
 ghost use Rattle.parcel_check.specs.Check.{enter_bits, enter_byte, parcel_check};
 
-use low_first::word;
-
 // What stands above 32 bits, as a number of 32 bits that stands for the same.
+#[tactic(auto, using(crate::proofs::Folding::thirty_two))]
 fn below_32(above: u32) -> u32
     ensures { enter_bits 64 0 result ≡ enter_bits 64 0 (above * 4_294_967_296) }
 {
@@ -23,6 +22,7 @@ fn below_32(above: u32) -> u32
 }
 
 // What stands above 16 bits, as the register that it stands for.
+#[tactic(auto, using(crate::proofs::Folding::sixteen))]
 fn below_16(above: u16) -> u16
     ensures { result ≡ enter_bits 64 0 (above * 65_536) }
 {
@@ -32,6 +32,7 @@ fn below_16(above: u16) -> u16
 }
 
 // The register that a wide number stands for.
+#[tactic(auto, using(crate::proofs::Folding::in_halves))]
 fn register_of(wide: u32) -> u16
     ensures { result ≡ enter_bits 64 0 wide }
 {
@@ -39,15 +40,13 @@ fn register_of(wide: u32) -> u16
 }
 
 // The bytes ahead of the first whole four, none to three, as a number.
-fn ahead(body: &[u8]) -> u32
-    ensures { all_in enter_byte (enter_bits 64 0 result) (drop (length body.now % 4) body.now) ≡ parcel_check body.now }
+fn number_of(few: &[u8]) -> u32
+    requires { length few.now < 4 }
+    ensures { enter_bits 64 0 result ≡ all_in enter_byte 0 few.now }
 {
-    let count = body.len() % 4;
     let mut number = 0u32;
-    let mut i = 0;
-    while i < count {
-        number = number * 256 + body[i] as u32;
-        i += 1;
+    for byte in few {
+        number = number * 256 + u32::from(*byte);
     }
     number
 }
@@ -56,11 +55,10 @@ fn ahead(body: &[u8]) -> u32
 pub fn check_of(body: &[u8]) -> u16
     ensures { result ≡ parcel_check body.now }
 {
-    let mut wide = ahead(body);
-    let mut i = body.len() % 4;
-    while i < body.len() {
-        wide = below_32(wide) ^ word(body[i + 3], body[i + 2], body[i + 1], body[i]);
-        i += 4;
+    let (few, fours) = body.as_rchunks::<4>();
+    let mut wide = number_of(few);
+    for four in fours {
+        wide = below_32(wide) ^ u32::from_be_bytes(*four);
     }
     register_of(wide)
 }

@@ -1,36 +1,22 @@
--- Shown: what a row without fields makes of the data behind its code, and the numbers that a weight's data hold by their places.
+-- Shown: the numbers that a weight's data hold by their places, and what stands behind its code.
 -- Why: data of known length are their bytes by their places.
+use Rattle.std.specs.Prelude.{Ok, Err}
 use Prim.Native.Nat.{ℕ, ◌≤◌}
 use mathlib.Core.Path.{◌≡◌, ◌∙◌, refl, sym, ap}
-use mathlib.Core.Bool.{Bool, true, false, cond, not, ◌&&◌}
+use mathlib.Core.Bool.{Bool, true, false, ◌&&◌}
 use mathlib.Core.List.{List, [], ◌∷◌}
 use native.Mathlib.Nat.{add-zero}
 use native.Mathlib.Omega.{arith}
-use borrow.Author.Tests.{le-leb}
-use lib.Dec.{leb, eqb}
+use borrow.Author.Tests.{le-leb, eq-eqb, ne_eqb}
+use lib.Dec.{leb}
 use lib.ListN.{length, take, get_or}
 use Rattle.laws.proofs.ByteLists.{placed, front_by_place, by_place}
-use Rattle.refusal.specs.declared.Refusal.TheVariants.{LengthWrong}
-use Rattle.refusal.specs.declared.Verdict.TheVariants.{Good}
-use Rattle.refusal.specs.Numbers.{refuse_if, by_verdict}
+use Rattle.refusal.specs.declared.Refusal.TheVariants.{LengthWrong, FieldOutside}
 use Rattle.low_first.specs.LowFirst.{low_first}
-use Rattle.parcel_scale.specs.declared.parcels.Parcel.{Parcel}
-use Rattle.parcel_scale.specs.declared.reading.ParcelRead.TheVariants as read_kind
-use Rattle.parcel_scale.specs.Layouts.{Weight, Division, Stable, numbers_in, in_values, widths}
-use Rattle.parcel_scale.specs.Reading.{read_row}
-
--- a row without fields: 7, or its message
-pub plain_row : (used code : ℕ) (parcel : Parcel) (data' : List ℕ)
-    → read_row used (record { code = code; fields = []; says = λ numbers. parcel }) data'
-    ≡ cond (eqb (length data') 0) (read_kind.Parcel parcel used) (read_kind.Refused LengthWrong)
-unfolding read_row widths in_values
-plain_row used code parcel data' = chosen (eqb (length data') 0)
-  where
-    chosen : (right : Bool)
-        → by_verdict (λ (parcel : Parcel). read_kind.Parcel parcel used) read_kind.Refused (refuse_if (not right) LengthWrong Good) parcel
-        ≡ cond right (read_kind.Parcel parcel used) (read_kind.Refused LengthWrong)
-    chosen true = refl
-    chosen false = refl
+use Rattle.low_first.specs.Signed.{signed_of}
+use Rattle.parcel_scale.specs.declared.parcels.Parcel.TheVariants.{AckWeight}
+use Rattle.parcel_scale.specs.Layouts.{Weight, Division, Stable, row_in, row_of, numbers_in, in_values, widths}
+use Rattle.parcel_scale.specs.Reading.{read_row, read_code}
 
 -- four bytes at the front, by their places
 abbrev pub four_bytes : List ℕ → List ℕ
@@ -75,3 +61,31 @@ pub weight_outside : (word division stable : ℕ) → (leb division 4 && leb sta
     → in_values (Weight ∷ Division ∷ Stable ∷ []) (word ∷ division ∷ stable ∷ []) ≡ false
 unfolding in_values
 weight_outside word division stable e = rw (and_true (leb stable 1), e) (and_false (leb word 0xFFFF_FFFF))
+
+-- what stands behind the code of a weight: its three numbers, or 8
+module _ (used : ℕ) (data' : List ℕ) (right : length data' ≡ 6) where
+  pub weight_row : low_first (four_bytes data') ≤ 0xFFFF_FFFF → (leb (get_or data' 4 0) 4 && leb (get_or data' 5 0) 1) ≡ true
+      → read_code used (row_of 0x10) data'
+      ≡ Ok (AckWeight (record { count = signed_of (low_first (four_bytes data')); division = get_or data' 4 0; stable = get_or data' 5 0 }), used)
+  unfolding read_code row_of row_in read_row widths
+  weight_row small marks =
+      rw (
+        eq-eqb _ _ right,
+        weight_numbers data' right,
+        four_at_front data' (omega arith),
+        weight_within (low_first (four_bytes data')) (get_or data' 4 0) (get_or data' 5 0) small,
+        marks,
+      )
+
+  pub weight_row_outside : (leb (get_or data' 4 0) 4 && leb (get_or data' 5 0) 1) ≡ false → read_code used (row_of 0x10) data' ≡ Err FieldOutside
+  unfolding read_code row_of row_in read_row widths
+  weight_row_outside wrong =
+      rw (
+        eq-eqb _ _ right,
+        weight_numbers data' right,
+        weight_outside (low_first (take 4 data')) (get_or data' 4 0) (get_or data' 5 0) wrong,
+      )
+
+pub weight_row_long : (used : ℕ) (data' : List ℕ) → (length data' ≡ 6 → ⊥) → read_code used (row_of 0x10) data' ≡ Err LengthWrong
+unfolding read_code row_of row_in read_row widths
+weight_row_long used data' wrong = rw (ne_eqb _ _ wrong)

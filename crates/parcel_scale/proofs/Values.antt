@@ -1,19 +1,18 @@
--- Shown: the table of divisions; a count times a division is at most 2^31 times 10^7, sign aside, and so fits 64 bits; when a weight's fields are legal.
--- Why: a computed test over five entries; the size of a product is the product of the sizes.
-use Prim.Native.Nat.{ℕ, suc, ◌*◌, ◌%◌, ◌^◌, ◌≤◌}
+-- Shown: the largest division; a count times a division is at most 2^31 times 10^7, sign aside, and so fits 64 bits; when a weight's fields are legal.
+-- Why: a power of ten grows with its exponent; the size of a product is the product of the sizes.
+use Prim.Native.Nat.{ℕ, suc, ◌+◌, ◌*◌, ◌%◌, ◌^◌, ◌≤◌}
 use mathlib.Core.Path.{◌≡◌, ◌∙◌, sym, ap, subst}
 use mathlib.Core.Bool.{true, false, ◌&&◌, and-eq-true_iff}
-use mathlib.Core.List.{List, [], ◌∷◌, ◌++◌}
-use native.Mathlib.Nat.{mul-le-mul}
+use mathlib.Core.List.{[], ◌∷◌, ◌++◌}
+use native.Mathlib.Nat.{mul-le-mul, div-div-eq-div-mul, pow-le-pow_right}
 use native.Mathlib.Omega.{arith}
 use borrow.Author.Tests.{leb-true}
-use lib.Dec.{leb, eqb, eqb→eq, leb→le}
+use lib.Dec.{leb}
 use lib.IntN.{ℤ, pos, negsuc, nat_abs, ◌*ℤ◌, pos-*ℤ-pos, negsuc-*ℤ-pos}
-use lib.ListN.{get_or}
 use mir.Syntax.{w32, w64}
 use mir.Val.{SFits, to_z, of_z}
-use mir.ValLaws.{to_z-of_z}
-use Rattle.laws.proofs.Computed.{below}
+use mir.ValLaws.{to_z-of_z, to_z_pos}
+use Rattle.std.specs.Int.{cast_signed, to_le_bytes}
 use Rattle.low_first.specs.LowFirst.{low_bytes}
 use Rattle.low_first.specs.Signed.{word_of}
 use Rattle.low_first.proofs.SignedWords.{word_fits}
@@ -27,14 +26,8 @@ use Rattle.parcel_scale.proofs.Rows.{weight_within, weight_outside}
 
 -- ---- the divisions
 
-abbrev divisions : List ℕ
-divisions = 1000 ∷ 10000 ∷ 100000 ∷ 1000000 ∷ 10000000 ∷ []
-
-pub division_at : (code : ℕ) → code ≤ 4 → get_or divisions code 0 ≡ division_of code
-division_at code h = eqb→eq _ _ (below (λ (code : ℕ). eqb (get_or divisions code 0) (division_of code)) 5 tt code (omega arith))
-
-pub division_most : (code : ℕ) → code ≤ 4 → get_or divisions code 0 ≤ 10000000
-division_most code h = leb→le _ _ (below (λ (code : ℕ). leb (get_or divisions code 0) 10000000) 5 tt code (omega arith))
+pub division_most : (code : ℕ) → code ≤ 4 → division_of code ≤ 10000000
+division_most code h = pow-le-pow_right {n = 10} (omega arith) {i = 3 + code} {j = 7} (omega arith)
 
 -- ---- a count times a division
 
@@ -52,12 +45,14 @@ value_most count size f h = subst (λ (n : ℕ). n ≤ 2 ^ 31 * 10 ^ 7) (sym (pr
 pub value_fits : (count : ℤ) (size : ℕ) → SFits w32 count → size ≤ 10 ^ 7 → SFits w64 (count *ℤ pos size)
 value_fits count size f h = let most = value_most count size f h in fits_64 (count *ℤ pos size) (omega arith)
 
--- a count of 32 bits widened to 64
-pub wide_fits : (count : ℤ) → SFits w32 count → SFits w64 count
-wide_fits count f = let h = f.sfits in record { sfits = omega arith }
-
-pub widened : (count : ℤ) → SFits w32 count → to_z w64 (of_z w64 (to_z w32 (of_z w32 count))) ≡ count
-widened count f = ap (λ (z : ℤ). to_z w64 (of_z w64 z)) (to_z-of_z w32 count f) ∙ to_z-of_z w64 count (wide_fits count f)
+-- the product as the machine makes it of a count of 32 bits and a division
+pub value_made : (count wide division : ℤ) (size : ℕ) → wide ≡ count → division ≡ cast_signed w64 size → SFits w32 count → size ≤ 10 ^ 7
+    → to_z w64 (of_z w64 (to_z w64 (of_z w64 wide) *ℤ to_z w64 (of_z w64 division))) ≡ count *ℤ pos size
+value_made count wide division size e d f h =
+    let wide_fits : SFits w64 count = let h = f.sfits in record { sfits = omega arith } in
+    let size_is : cast_signed w64 size ≡ pos size = to_z_pos w64 size (omega arith) in
+    let size_fits : SFits w64 (pos size) = record { sfits = omega arith } in
+    rw (e, d, size_is, to_z-of_z w64 count wide_fits, to_z-of_z w64 (pos size) size_fits) (to_z-of_z w64 (count *ℤ pos size) (value_fits count size f h))
 
 -- ---- a weight's fields
 
@@ -82,3 +77,8 @@ weight_body told e =
     let division : told.division % 256 ≡ told.division = omega (arith, leb-true told.division 4 marks.0) in
     let stable : told.stable % 256 ≡ told.stable = omega (arith, leb-true told.stable 1 marks.1) in
     rw (division, stable)
+
+-- a word's four bytes, low byte first
+pub four_low_bytes : (word : ℕ) → to_le_bytes w32 word ≡ low_bytes 4 word
+unfolding low_bytes
+four_low_bytes word = simp (div-div-eq-div-mul)

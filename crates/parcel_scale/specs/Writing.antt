@@ -1,13 +1,12 @@
 -- 02, request 5: "writing judges 6, 8, 9." The message is a type with the seven codes alone, so 6 is judged and never answered.
-use Rattle.std.specs.Prelude.{ℕ, Bool, not, List, [], ◌∷◌, length}
+use Rattle.std.specs.Prelude.{ℕ, Bool, not, List, [], ◌∷◌, length, Result, Err}
 use Rattle.refusal.specs.declared.Refusal.TheVariants.{CodeUnknown, FieldOutside}
-use Rattle.refusal.specs.declared.Verdict.{Verdict}
-use Rattle.refusal.specs.declared.Verdict.TheVariants.{Refused}
 use Rattle.refusal.specs.Numbers.{refuse_if}
 use Rattle.room.specs.Writing.{Left, judged_room, wrote}
 use Rattle.parcel_scale.specs.declared.parcels.Parcel.{Parcel}
 use Rattle.parcel_scale.specs.Frame.{framed}
 use Rattle.parcel_scale.specs.Layouts.{Field, Found, known, unknown, row_of, code_of, numbers_of, laid_out, in_values}
+use Rattle.refusal.specs.declared.Refusal.{Refusal}
 
 -- the fields of a message: those of its code's row
 abbrev pub fields_in : Found → List Field
@@ -30,12 +29,12 @@ unfoldable pub legal_fields : Parcel → Bool
 legal_fields parcel = in_values (fields_of parcel) (numbers_of parcel)
 
 -- 6 ahead of what comes after
-abbrev pub judged_code : Found → Verdict → Verdict
+abbrev pub judged_code : Found → Result (Unit {0}) Refusal → Result (Unit {0}) Refusal
 judged_code (known row) after = after
-judged_code unknown after = Refused CodeUnknown
+judged_code unknown after = Err CodeUnknown
 
 -- 6, 8, 9
-unfoldable pub judged_parcel : Parcel → List ℕ → Verdict
+unfoldable pub judged_parcel : Parcel → List ℕ → Result (Unit {0}) Refusal
 judged_parcel parcel room =
     judged_code (row_of (code_of parcel)) (refuse_if (not (legal_fields parcel)) FieldOutside (judged_room (length (parcel_bytes parcel)) room))
 

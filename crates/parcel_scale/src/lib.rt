@@ -9,6 +9,6 @@ mod value;
 mod writing;
 
 pub use parcels::{Parcel, ParcelWeight};
-pub use reading::{ParcelRead, read};
+pub use reading::read;
 pub use value::value_of;
 pub use writing::write;

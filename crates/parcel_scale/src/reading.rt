@@ -1,9 +1,7 @@
 // Reading lent bytes as a message of the parcel scales: 20, 21, 22, and then 6, 7, 8.
-ghost use Rattle.std.specs.Prelude.{◌≡◌, cond, ◌≤◌, eqb, length, take};
+ghost use Rattle.std.specs.Prelude.{◌≡◌, cond, eqb, length, take};
 ghost use Rattle.low_first.specs.LowFirst.{low_first};
 ghost use Rattle.refusal.specs.declared.Refusal.TheVariants.{LengthWrong};
-ghost use Rattle.parcel_scale.specs.declared.reading.ParcelRead.TheVariants as read_kind;
-ghost use Rattle.parcel_scale.specs.Frame.{headed};
 ghost use Rattle.parcel_scale.specs.Layouts.{row_of};
 ghost use Rattle.parcel_scale.specs.Reading.{read_code, read_body, read_parcel};
 
@@ -13,135 +11,97 @@ use low_first::{half, signed, word};
 use parcel_check::check_of;
 use refusal::Refusal;
 
-// Lent bytes read as a message with how many bytes of them were used, or the refusal that they earn.
-#[derive(Clone, Copy)]
-pub enum ParcelRead {
-    Parcel(Parcel, usize),
-    Refused(Refusal),
-}
-
 // The header, the two bytes of the length, and the two of the check.
 const AROUND_BODY: usize = 7;
 
-const BODY_AT: usize = 5;
-
-// Whether bytes start with the header.
-fn is_headed(bytes: &[u8]) -> bool
-    ensures { result ≡ headed bytes.now }
+// A message without data. 7 if there are any. How many bytes were used goes along with the data, because the definitions give it to each row.
+fn plain(parcel: Parcel, data: &[u8], used: usize) -> Result<(Parcel, usize), Refusal>
+    ensures { result ≡ cond (eqb (length «data».now) 0) (Ok (record { 0 = parcel; 1 = used })) (Err LengthWrong) }
 {
-    if bytes.len() < 3 {
-        return false;
-    }
-    (bytes[0] == 0xF8) & (bytes[1] == 0x55) & (bytes[2] == 0xCE)
-}
-
-// A message without data. 7 if there are any.
-fn plain(parcel: Parcel, length: usize, used: usize) -> ParcelRead
-    ensures { result ≡ cond (eqb length 0) (read_kind.Parcel parcel used) (read_kind.Refused LengthWrong) }
-{
-    if length == 0 {
-        ParcelRead::Parcel(parcel, used)
+    if data.is_empty() {
+        Ok((parcel, used))
     } else {
-        ParcelRead::Refused(Refusal::LengthWrong)
+        Err(Refusal::LengthWrong)
     }
 }
 
-// The four bytes at the front of data, as a word.
-fn first_word(data: &[u8]) -> u32
-    requires { 4 ≤ length «data».now }
-    ensures { result ≡ low_first (take 4 «data».now) }
+// The one field of four bytes behind a code, the tare of A3 or the serial of 50. 7 for any other length.
+fn one_word(data: &[u8]) -> Result<u32, Refusal>
+    ensures { result ≡ cond (eqb (length «data».now) 4) (Ok (low_first (take 4 «data».now))) (Err LengthWrong) }
 {
-    word(data[0], data[1], data[2], data[3])
-}
-
-// A3: the tare.
-fn tare(data: &[u8], used: usize) -> ParcelRead
-    ensures { result ≡ read_code used (row_of 0xA3) «data».now }
-{
-    if data.len() != 4 {
-        return ParcelRead::Refused(Refusal::LengthWrong);
-    }
-    let grams = signed(first_word(data));
-    ParcelRead::Parcel(Parcel::SetTare(grams), used)
-}
-
-// 50: the serial.
-fn serial(data: &[u8], used: usize) -> ParcelRead
-    ensures { result ≡ read_code used (row_of 0x50) «data».now }
-{
-    if data.len() != 4 {
-        return ParcelRead::Refused(Refusal::LengthWrong);
-    }
-    let number = first_word(data);
-    ParcelRead::Parcel(Parcel::AckDeviceId(number), used)
+    let [first, second, third, fourth] = data else {
+        return Err(Refusal::LengthWrong);
+    };
+    Ok(word(*first, *second, *third, *fourth))
 }
 
 // 10: the weight.
-fn weight(data: &[u8], used: usize) -> ParcelRead
+#[tactic(auto, using(crate::proofs::Rows::weight_row, crate::proofs::Rows::weight_row_outside, crate::proofs::Rows::weight_row_long))]
+fn weight(data: &[u8], used: usize) -> Result<(Parcel, usize), Refusal>
     ensures { result ≡ read_code used (row_of 0x10) «data».now }
 {
-    if data.len() != 6 {
-        return ParcelRead::Refused(Refusal::LengthWrong);
-    }
-    let division = data[4];
-    let stable = data[5];
-    if !marks_legal(division, stable) {
-        return ParcelRead::Refused(Refusal::FieldOutside);
-    }
-    let count = signed(first_word(data));
-    let told = ParcelWeight {
-        count,
-        division,
-        stable,
+    let [first, second, third, fourth, division, stable] = data else {
+        return Err(Refusal::LengthWrong);
     };
-    ParcelRead::Parcel(Parcel::AckWeight(told), used)
+    let told = ParcelWeight {
+        count: signed(word(*first, *second, *third, *fourth)),
+        division: *division,
+        stable: *stable,
+    };
+    if !marks_legal(told) {
+        return Err(Refusal::FieldOutside);
+    }
+    Ok((Parcel::AckWeight(told), used))
 }
 
 // What stands behind a code: 6, 7, 8.
-fn read_code(code: u8, data: &[u8], used: usize) -> ParcelRead
+#[tactic(auto, unfolding(crate::specs::Reading::read_code, crate::specs::Reading::read_row, crate::specs::Layouts::row_of, crate::specs::Layouts::row_in, crate::specs::Layouts::widths, crate::specs::Layouts::numbers_in, crate::specs::Layouts::in_values))]
+fn read_code(code: u8, data: &[u8], used: usize) -> Result<(Parcel, usize), Refusal>
     ensures { result ≡ read_code used (row_of code) «data».now }
 {
     match code {
-        0xA0 => plain(Parcel::GetWeight, data.len(), used),
-        0xA3 => tare(data, used),
-        0x90 => plain(Parcel::GetDeviceId, data.len(), used),
+        0xA0 => plain(Parcel::GetWeight, data, used),
+        0xA3 => Ok((Parcel::SetTare(signed(one_word(data)?)), used)),
+        0x90 => plain(Parcel::GetDeviceId, data, used),
         0x10 => weight(data, used),
-        0x12 => plain(Parcel::AckCommand, data.len(), used),
-        0x50 => serial(data, used),
-        0xF0 => plain(Parcel::Nack, data.len(), used),
-        _ => ParcelRead::Refused(Refusal::CodeUnknown),
+        0x12 => plain(Parcel::AckCommand, data, used),
+        0x50 => Ok((Parcel::AckDeviceId(one_word(data)?), used)),
+        0xF0 => plain(Parcel::Nack, data, used),
+        _ => Err(Refusal::CodeUnknown),
     }
 }
 
 // A body whose check is right: 6, also if it is empty, 7, 8.
-fn read_body(body: &[u8], used: usize) -> ParcelRead
+#[tactic(auto, unfolding(crate::specs::Reading::read_body))]
+fn read_body(body: &[u8], used: usize) -> Result<(Parcel, usize), Refusal>
     ensures { result ≡ read_body used body.now }
 {
-    if body.len() == 0 {
-        return ParcelRead::Refused(Refusal::CodeUnknown);
-    }
-    read_code(body[0], &body[1..body.len()], used)
+    let [code, data @ ..] = body else {
+        return Err(Refusal::CodeUnknown);
+    };
+    read_code(*code, data, used)
 }
 
 // Lent bytes read as a message. Judged 20, 21, 22, 6, 7, 8. Bytes behind the check are not looked at.
-pub fn read(bytes: &[u8]) -> ParcelRead
+#[tactic(auto, unfolding(crate::specs::Reading::read_parcel, crate::specs::Reading::judged_frame, crate::specs::Frame::headed, crate::specs::Frame::length_in, crate::specs::Frame::needs, crate::specs::Frame::body_in, crate::specs::Frame::check_in))]
+pub fn read(bytes: &[u8]) -> Result<(Parcel, usize), Refusal>
     ensures { result ≡ read_parcel bytes.now }
 {
-    if !is_headed(bytes) {
-        return ParcelRead::Refused(Refusal::HeaderWrong);
+    let [0xF8, 0x55, 0xCE, behind_header @ ..] = bytes else {
+        return Err(Refusal::HeaderWrong);
+    };
+    let [low, high, behind_length @ ..] = behind_header else {
+        return Err(Refusal::BytesMissing);
+    };
+    let length = usize::from(half(*low, *high));
+    let Some((body, behind_body)) = behind_length.split_at_checked(length) else {
+        return Err(Refusal::BytesMissing);
+    };
+    let [low, high, ..] = behind_body else {
+        return Err(Refusal::BytesMissing);
+    };
+    if check_of(body) != half(*low, *high) {
+        return Err(Refusal::ParcelCheckWrong);
     }
-    if bytes.len() < AROUND_BODY {
-        return ParcelRead::Refused(Refusal::BytesMissing);
-    }
-    let length = half(bytes[3], bytes[4]) as usize;
-    if bytes.len() - AROUND_BODY < length {
-        return ParcelRead::Refused(Refusal::BytesMissing);
-    }
-    let end = BODY_AT + length;
-    let low = bytes[end];
-    let high = bytes[end + 1];
-    if check_of(&bytes[BODY_AT..end]) != half(low, high) {
-        return ParcelRead::Refused(Refusal::ParcelCheckWrong);
-    }
-    read_body(&bytes[BODY_AT..end], end + 2)
+    read_body(body, AROUND_BODY + length)
 }

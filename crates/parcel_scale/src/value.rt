@@ -4,42 +4,37 @@ ghost use Rattle.parcel_scale.specs.Value.{division_of, parcel_value};
 
 use crate::parcels::ParcelWeight;
 use refusal::Refusal;
-use weight::Value;
 
 // The highest code of a division, 1 kg, and the highest stable mark.
 const HIGHEST_DIVISION: u8 = 4;
 
 const HIGHEST_STABLE: u8 = 1;
 
-// The divisions 100 mg, 1 g, 10 g, 100 g, 1 kg, in tenths of a milligram.
-const DIVISIONS: [u64; 5] = [1_000, 10_000, 100_000, 1_000_000, 10_000_000];
-
 // Whether division and stable mark have values that they may have. A count may have any.
-pub(crate) fn marks_legal(division: u8, stable: u8) -> bool
-    ensures { result ≡ (leb division 4 && leb stable 1) }
+pub(crate) fn marks_legal(told: ParcelWeight) -> bool
+    ensures { result ≡ (leb told.division 4 && leb told.stable 1) }
 {
-    if HIGHEST_DIVISION < division {
-        return false;
-    }
-    stable <= HIGHEST_STABLE
+    told.division <= HIGHEST_DIVISION && told.stable <= HIGHEST_STABLE
 }
 
+// A division in tenths of a milligram: 100 mg, 1 g, 10 g, 100 g, 1 kg.
+#[tactic(auto, using(crate::proofs::Values::division_most))]
 fn division_of(code: u8) -> u64
     requires { code ≤ 4 }
     ensures value { result ≡ division_of code }
     ensures small { result ≤ 10_000_000 }
 {
-    DIVISIONS[code as usize]
+    10u64.pow(3 + u32::from(code))
 }
 
 // The value of a weight. 8 for a division or a stable mark outside its values.
-pub fn value_of(told: ParcelWeight) -> Value
+#[tactic(auto, unfolding(crate::specs::Value::parcel_value), using(crate::proofs::Values::value_fits, crate::proofs::Values::value_made, crate::proofs::Values::marks_decide))]
+pub fn value_of(told: ParcelWeight) -> Result<i64, Refusal>
     ensures { result ≡ parcel_value told }
 {
-    if marks_legal(told.division, told.stable) {
-        let division = division_of(told.division) as i64;
-        Value::Tenths(told.count as i64 * division)
-    } else {
-        Value::Refused(Refusal::FieldOutside)
+    if !marks_legal(told) {
+        return Err(Refusal::FieldOutside);
     }
+    let division = division_of(told.division).cast_signed();
+    Ok(i64::from(told.count) * division)
 }

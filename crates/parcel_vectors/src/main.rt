@@ -12,7 +12,6 @@ mod words;
 ghost use Rattle.std.specs.Prelude.{◌≤◌, IfOk};
 
 use blocks::read_full;
-use low_first::{half, signed, word};
 use parcel_check::check_of;
 use parcel_scale::{Parcel, ParcelWeight};
 use std::io;
@@ -28,21 +27,18 @@ fn take_length(mut input: Stdin) -> io::Result<usize>
 {
     let mut two = [0u8; 2];
     read_full(&mut input, &mut two)?;
-    let length = half(two[0], two[1]) as usize;
-    if LONGEST_GIVEN < length {
-        return Ok(LONGEST_GIVEN);
-    }
-    Ok(length)
+    Ok(usize::from(u16::from_le_bytes(two)).min(LONGEST_GIVEN))
 }
 
 // Four bytes of the count, division, stable.
 fn take_weight(mut input: Stdin) -> io::Result<ParcelWeight> {
     let mut six = [0u8; 6];
     read_full(&mut input, &mut six)?;
+    let [c0, c1, c2, c3, division, stable] = six;
     Ok(ParcelWeight {
-        count: signed(word(six[0], six[1], six[2], six[3])),
-        division: six[4],
-        stable: six[5],
+        count: i32::from_le_bytes([c0, c1, c2, c3]),
+        division,
+        stable,
     })
 }
 
@@ -50,15 +46,16 @@ fn take_weight(mut input: Stdin) -> io::Result<ParcelWeight> {
 fn take_parcel(mut input: Stdin) -> io::Result<Parcel> {
     let mut seven = [0u8; 7];
     read_full(&mut input, &mut seven)?;
-    let number = word(seven[1], seven[2], seven[3], seven[4]);
-    Ok(match seven[0] {
+    let [message, n0, n1, n2, n3, division, stable] = seven;
+    let number = u32::from_le_bytes([n0, n1, n2, n3]);
+    Ok(match message {
         0 => Parcel::GetWeight,
-        1 => Parcel::SetTare(signed(number)),
+        1 => Parcel::SetTare(number.cast_signed()),
         2 => Parcel::GetDeviceId,
         3 => Parcel::AckWeight(ParcelWeight {
-            count: signed(number),
-            division: seven[5],
-            stable: seven[6],
+            count: number.cast_signed(),
+            division,
+            stable,
         }),
         4 => Parcel::AckCommand,
         5 => Parcel::AckDeviceId(number),
@@ -67,16 +64,13 @@ fn take_parcel(mut input: Stdin) -> io::Result<Parcel> {
 }
 
 // A write into a room as it is lent, and what it leaves there.
-fn tell_written(room: &mut [u8], mut input: Stdin, out: Stdout) -> io::Result<()> {
+fn tell_written(mut input: Stdin, out: Stdout) -> io::Result<()> {
+    let length = take_length(input)?;
+    let mut space = [0u8; LONGEST_GIVEN];
+    let room = &mut space[..length];
     read_full(&mut input, room)?;
     let written = parcel_scale::write(take_parcel(input)?, room);
     say_written(written, room, out)
-}
-
-fn lend(input: Stdin, out: Stdout) -> io::Result<()> {
-    let length = take_length(input)?;
-    let mut space = [0u8; LONGEST_GIVEN];
-    tell_written(&mut space[0..length], input, out)
 }
 
 // The functions, each under its number.
@@ -85,29 +79,30 @@ fn tell(function: u8, text: &[u8], input: Stdin, out: Stdout) -> io::Result<()> 
         1 => say(check_of(text) as u64, out),
         2 => say_parcel_read(parcel_scale::read(text), out),
         3 => say_value(parcel_scale::value_of(take_weight(input)?), out),
-        _ => lend(input, out),
+        _ => tell_written(input, out),
     }
 }
 
-fn run_text(function: u8, text: &mut [u8], mut input: Stdin, out: Stdout) -> io::Result<()> {
-    read_full(&mut input, text)?;
-    print!(out; "{function}")?;
-    tell(function, text, input, out)?;
-    print!(out; "\n")
-}
-
+// The programs of the second model's cases repeat the few lines below: handed out by a library, each would need a contract over what an input gives, a
+// row and two wrong programs, which are longer than the lines.
 // Runs one case. False at the end of the input.
 fn run_case(mut input: Stdin, out: Stdout) -> io::Result<bool> {
     let mut one = [0u8; 1];
     if read_full(&mut input, &mut one)? == 0 {
         return Ok(false);
     }
+    let [function] = one;
     let length = take_length(input)?;
     let mut space = [0u8; LONGEST_GIVEN];
-    run_text(one[0], &mut space[0..length], input, out)?;
+    let text = &mut space[..length];
+    read_full(&mut input, text)?;
+    print!(out; "{function}")?;
+    tell(function, text, input, out)?;
+    print!(out; "\n")?;
     Ok(true)
 }
 
+// A proved loop has to end, but nothing says that an input ends. So the turns are counted up to a number that no run uses up.
 fn main(rt: HostRuntime) -> io::Result<()> {
     for _ in 0..u64::MAX {
         if !run_case(rt.stdin(), rt.stdout())? {

@@ -2,14 +2,13 @@
 ghost use Rattle.std.specs.Prelude.{◌≡◌};
 ghost use Rattle.quay_line.specs.Listening.{went_out, Listened};
 
-use crate::places::{QuayPlace, event_out, place_from, place_out};
+use crate::places::{QuayPlace, event_out};
 use crossing::QuayEvent;
-use line::Went;
-use refusal::{Refusal, number};
+use line::{Place, Went};
 
 // The next place, the first event, and how many bytes of the block were taken.
 #[repr(C)]
-#[derive(Clone, Copy)]
+#[derive(Clone, Copy, Debug, PartialEq, Eq)]
 pub struct QuayWent {
     pub place: QuayPlace,
     pub event: QuayEvent,
@@ -17,18 +16,16 @@ pub struct QuayWent {
     pub refusal: u8, // of the call: 8 where the place handed in has a phase that does not exist
 }
 
-const HIGHEST_PHASE: u8 = 3;
+impl From<Went> for QuayWent {
+    ghost from_gives = { λ went answered. answered ≡ went_out went };
 
-fn went_out(went: Went) -> QuayWent
-    ensures { result ≡ went_out went }
-{
-    let place = went.place;
-    let event = went.event;
-    QuayWent {
-        place: place_out(place),
-        event: event_out(event),
-        used: went.used,
-        refusal: 0,
+    fn from(went: Went) -> QuayWent {
+        QuayWent {
+            place: QuayPlace::from(went.place),
+            event: event_out(went.event),
+            used: went.used,
+            refusal: 0,
+        }
     }
 }
 
@@ -38,19 +35,13 @@ fn went_out(went: Went) -> QuayWent
 pub extern "C" fn quay_listen(place: QuayPlace, block: &[u8], body: &mut [u8; 255]) -> QuayWent
     ensures { Listened place block.now body.old result body.new }
 {
-    if HIGHEST_PHASE < place.phase {
-        return QuayWent {
+    match Place::try_from(place) {
+        Ok(place) => QuayWent::from(place.listen(block, body)),
+        Err(why) => QuayWent {
             place,
-            event: QuayEvent {
-                wire: 0,
-                kept: 0,
-                kind: 0,
-                refusal: 0,
-            },
+            event: event_out(None),
             used: 0,
-            refusal: number(Refusal::FieldOutside),
-        };
+            refusal: u8::from(why),
+        },
     }
-    let went = place_from(place).listen(block, body);
-    went_out(went)
 }

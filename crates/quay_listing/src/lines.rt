@@ -1,54 +1,69 @@
 // Events as lines of text, and the total line.
 ghost use Rattle.std.specs.Prelude.{◌≡◌};
 ghost use Rattle.listing.specs.Writing.{written_total};
+ghost use Rattle.crossing.specs.Events.{event_from};
+ghost use Rattle.crossing.specs.Families.{family_from};
 ghost use Rattle.crossing.specs.Writing.{LeavesAcross};
-ghost use Rattle.quay_listing.specs.Lines.{entry_number, unlisted, Lists, ListsEntry};
+ghost use Rattle.quay_listing.specs.Lines.{entry_number, entry_given, unlisted, Lists, ListsEntry};
 
-use crossing::{FamilySaid, Given, QuayEvent, QuayWritten, event_from, family_from, written_out};
+use crossing::{QuayEvent, QuayWritten, event_from};
 use entries::{Entry, heard};
 use listing::{write_line, write_total};
-use refusal::{Refusal, number};
+use refusal::Refusal;
+use weight::Family;
 
 // The line's length, or 0 beside a refusal. And what was listed, for the counts of the total.
 #[repr(C)]
-#[derive(Clone, Copy)]
+#[derive(Clone, Copy, Debug, PartialEq, Eq)]
 pub struct QuayListed {
     pub length: usize,
     pub entry: u8, // 0 nothing, 1 a weight, 2 another message, 3 a refusal
     pub refusal: u8,
 }
 
-fn entry_number(entry: Entry) -> u8
+// A function: `Entry` is declared in `entries`, so no `From` of it can stand here.
+fn entry_number(entry: Option<Entry>) -> u8
     ensures { result ≡ entry_number entry }
 {
     match entry {
-        Entry::Nothing => 0,
-        Entry::Weight(_, _, _) => 1,
-        Entry::Message(_, _) => 2,
-        Entry::Refused(_) => 3,
+        None => 0,
+        Some(Entry::Weight(_, _, _)) => 1,
+        Some(Entry::Message(_, _)) => 2,
+        Some(Entry::Refused(_)) => 3,
     }
 }
 
-fn unlisted(why: Refusal) -> QuayListed
-    ensures { result ≡ unlisted why }
-{
-    QuayListed {
-        length: 0,
-        entry: 0,
-        refusal: number(why),
+impl From<Refusal> for QuayListed {
+    ghost from_gives = { λ why answered. answered ≡ unlisted why };
+
+    fn from(why: Refusal) -> QuayListed {
+        QuayListed {
+            length: 0,
+            entry: 0,
+            refusal: u8::from(why),
+        }
     }
 }
 
-fn list_entry(number: u64, entry: Entry, room: &mut [u8]) -> QuayListed
+fn list_entry(number: u64, entry: Option<Entry>, room: &mut [u8]) -> QuayListed
     ensures { ListsEntry number entry room.old result room.new }
 {
-    let kind = entry_number(entry);
-    let written = written_out(write_line(number, entry, room));
+    let written = QuayWritten::from(write_line(number, entry, room));
     QuayListed {
         length: written.length,
-        entry: kind,
+        entry: entry_number(entry),
         refusal: written.refusal,
     }
+}
+
+// What an event that was handed in lists as, by a family that was handed in.
+#[tactic(auto, using(crossing::proofs::Crossing::family_crosses))]
+fn entry_given(family: u8, event: QuayEvent, body: &[u8]) -> Result<Option<Entry>, Refusal>
+    ensures { result ≡ entry_given (family_from family) (event_from event) body.now }
+{
+    let family = Family::try_from(family)?;
+    let event = event_from(event)?;
+    Ok(heard(family, event, body))
 }
 
 // Writes the line of an event, as the event of that number. A frame's body stands at the front of the lent bytes and is judged again, by
@@ -63,17 +78,15 @@ pub extern "C" fn quay_list_event(
 ) -> QuayListed
     ensures { Lists number family event body.now room.old result room.new }
 {
-    match family_from(family) {
-        FamilySaid::Refused(why) => unlisted(why),
-        FamilySaid::Family(spoken) => match event_from(event) {
-            Given::Refused(why) => unlisted(why),
-            Given::Event(given) => list_entry(number, heard(spoken, given, body), room),
-        },
+    match entry_given(family, event, body) {
+        Ok(entry) => list_entry(number, entry, room),
+        Err(why) => QuayListed::from(why),
     }
 }
 
 // The last line of a listing. Judged 9.
 #[unsafe(no_mangle)]
+#[tactic(auto, using(crossing::proofs::Crossing::crosses))]
 pub extern "C" fn quay_list_total(
     total: u64,
     weights: u64,
@@ -82,6 +95,5 @@ pub extern "C" fn quay_list_total(
 ) -> QuayWritten
     ensures { LeavesAcross (written_total total weights refused room.old) result room.new }
 {
-    let written = write_total(total, weights, refused, room);
-    written_out(written)
+    QuayWritten::from(write_total(total, weights, refused, room))
 }

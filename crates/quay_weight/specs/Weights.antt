@@ -1,18 +1,12 @@
 -- Weights for another language. Four bytes and the number of a family go in; a reading, a value or kilograms come out. A refused answer has fields that no weight has;
 -- 8 and 24 (an overloaded reading has no value) cross alike.
-use Rattle.std.specs.Prelude.{ℕ, Bool, true, false, ℤ, negsuc}
+use Rattle.std.specs.Prelude.{ℕ, Bool, true, false, ℤ, negsuc, Result, Ok, Err, Float}
 use Rattle.std.specs.Float.{nan}
 use Rattle.refusal.specs.declared.Refusal.{Refusal}
 use Rattle.refusal.specs.Numbers.{number_of}
 use Rattle.weight.specs.declared.Reading.{Reading}
-use Rattle.weight.specs.declared.Read.{Read}
-use Rattle.weight.specs.declared.Read.TheVariants as read_kind
-use Rattle.weight.specs.declared.Value.{Value}
-use Rattle.weight.specs.declared.Value.TheVariants as value_as
 use Rattle.weight.specs.Families.{family_number}
 use Rattle.weight.specs.Tenths.{value_of, difference_of}
-use Rattle.kilograms.specs.declared.Kilograms.{Kilograms}
-use Rattle.kilograms.specs.declared.Kilograms.TheVariants as kilograms_as
 use Rattle.kilograms.specs.Rounded.{kilograms_of}
 use Rattle.quay_weight.specs.declared.weights.QuayReading.{QuayReading}
 use Rattle.quay_weight.specs.declared.weights.QuayValue.{QuayValue}
@@ -51,9 +45,9 @@ no_reading why = record {
   refusal = number_of why;
 }
 
-abbrev pub reading_out : Read → QuayReading
-reading_out (read_kind.Good reading) = good_reading reading
-reading_out (read_kind.Refused why) = no_reading why
+abbrev pub reading_out : Result Reading Refusal → QuayReading
+reading_out (Ok reading) = good_reading reading
+reading_out (Err why) = no_reading why
 
 -- ---- a value
 
@@ -61,25 +55,25 @@ reading_out (read_kind.Refused why) = no_reading why
 abbrev pub no_value : ℤ
 no_value = negsuc 9_223_372_036_854_775_807
 
-abbrev pub value_out : Value → QuayValue
-value_out (value_as.Tenths tenths) = record { value = tenths; refusal = 0 }
-value_out (value_as.Refused why) = record { value = no_value; refusal = number_of why }
+abbrev pub value_out : Result ℤ Refusal → QuayValue
+value_out (Ok tenths) = record { value = tenths; refusal = 0 }
+value_out (Err why) = record { value = no_value; refusal = number_of why }
 
-abbrev pub value_read : Read → Value
-value_read (read_kind.Good reading) = value_of reading
-value_read (read_kind.Refused why) = value_as.Refused why
+abbrev pub value_read : Result Reading Refusal → Result ℤ Refusal
+value_read (Ok reading) = value_of reading
+value_read (Err why) = Err why
 
-abbrev pub difference_read : Read → Read → Value
-difference_read (read_kind.Refused why) net = value_as.Refused why
-difference_read (read_kind.Good gross) (read_kind.Refused why) = value_as.Refused why
-difference_read (read_kind.Good gross) (read_kind.Good net) = difference_of gross net
+abbrev pub difference_read : Result Reading Refusal → Result Reading Refusal → Result ℤ Refusal
+difference_read (Err why) net = Err why
+difference_read (Ok gross) (Err why) = Err why
+difference_read (Ok gross) (Ok net) = difference_of gross net
 
 -- ---- kilograms
 
-abbrev pub kilograms_out : Kilograms → QuayKilograms
-kilograms_out (kilograms_as.Number kilograms) = record { kilograms = kilograms; refusal = 0 }
-kilograms_out (kilograms_as.Refused why) = record { kilograms = nan; refusal = number_of why }
+abbrev pub kilograms_out : Result Float Refusal → QuayKilograms
+kilograms_out (Ok kilograms) = record { kilograms = kilograms; refusal = 0 }
+kilograms_out (Err why) = record { kilograms = nan; refusal = number_of why }
 
-abbrev pub kilograms_read : Read → Kilograms
-kilograms_read (read_kind.Good reading) = kilograms_of reading
-kilograms_read (read_kind.Refused why) = kilograms_as.Refused why
+abbrev pub kilograms_read : Result Reading Refusal → Result Float Refusal
+kilograms_read (Ok reading) = kilograms_of reading
+kilograms_read (Err why) = Err why

@@ -1,18 +1,16 @@
 // Weights. Four bytes go in, as the wire and the log have them, and the number of their family. A reading, its value, a difference or kilograms come out.
 ghost use Rattle.std.specs.Prelude.{◌≡◌};
 ghost use Rattle.weight.specs.Bytes.{read_of};
-ghost use Rattle.quay_weight.specs.Weights.{mark, good_reading, no_reading, reading_out, value_out, value_read, difference_read, kilograms_out, kilograms_read};
+ghost use Rattle.quay_weight.specs.Weights.{reading_out, value_out, value_read, difference_read, kilograms_out, kilograms_read};
 
-use kilograms::{Kilograms, kilograms_of};
-use refusal::{Refusal, number};
-use weight::{
-    FourBytes, Read, Reading, Value, family_number, gross_less_net, read_bytes, value_of,
-};
+use kilograms::kilograms_of;
+use refusal::Refusal;
+use weight::{FourBytes, Reading, gross_less_net, read_bytes, value_of};
 
 // What a terminal shows. The marks are 0 or 1. If refused, the number, the marks and the family are all ones and the point is 0: number and
-// point together are far above any weight.
+// point together are far above any weight. Flags and numbers, since C has neither `Result` nor our enums; the layouts here are its interface.
 #[repr(C)]
-#[derive(Clone, Copy)]
+#[derive(Clone, Copy, Debug, PartialEq, Eq)]
 pub struct QuayReading {
     pub number: u32, // 0 to 999,999; no weight where `overload` is 1: ask `quay_value`, which refuses by 24
     pub point: u8, // digits after the point
@@ -27,7 +25,7 @@ pub struct QuayReading {
 
 // A signed whole number of tenths of a milligram. If refused, also for an overload, it is the lowest number there is. No weight is so low.
 #[repr(C)]
-#[derive(Clone, Copy)]
+#[derive(Clone, Copy, Debug, PartialEq, Eq)]
 pub struct QuayValue {
     pub value: i64,
     pub refusal: u8,
@@ -35,79 +33,98 @@ pub struct QuayValue {
 
 // A weight in kilograms. If refused, also for an overload, it is not a number.
 #[repr(C)]
-#[derive(Clone, Copy)]
+#[derive(Clone, Copy, Debug, PartialEq)]
 pub struct QuayKilograms {
     pub kilograms: f64,
     pub refusal: u8,
 }
 
-fn mark(set: bool) -> u8
-    ensures { result ≡ mark set }
-{
-    if set { 1 } else { 0 }
-}
+impl From<Result<Reading, Refusal>> for QuayReading {
+    ghost from_gives = { λ read answered. answered ≡ reading_out read };
 
-fn good_reading(reading: Reading) -> QuayReading
-    ensures { result ≡ good_reading reading }
-{
-    let family = reading.family;
-    QuayReading {
-        number: reading.number,
-        point: reading.point,
-        minus: mark(reading.minus),
-        bit6: mark(reading.bit6),
-        bit5: mark(reading.bit5),
-        settled: mark(reading.settled),
-        overload: mark(reading.overload),
-        family: family_number(family),
-        refusal: 0,
+    fn from(read: Result<Reading, Refusal>) -> QuayReading {
+        match read {
+            Ok(reading) => QuayReading {
+                number: reading.number,
+                point: reading.point,
+                minus: u8::from(reading.minus),
+                bit6: u8::from(reading.bit6),
+                bit5: u8::from(reading.bit5),
+                settled: u8::from(reading.settled),
+                overload: u8::from(reading.overload),
+                family: u8::from(reading.family),
+                refusal: 0,
+            },
+            Err(why) => QuayReading {
+                number: u32::MAX,
+                point: 0,
+                minus: 255,
+                bit6: 255,
+                bit5: 255,
+                settled: 255,
+                overload: 255,
+                family: 255,
+                refusal: u8::from(why),
+            },
+        }
     }
 }
 
-fn no_reading(why: Refusal) -> QuayReading
-    ensures { result ≡ no_reading why }
-{
-    QuayReading {
-        number: 4_294_967_295,
-        point: 0,
-        minus: 255,
-        bit6: 255,
-        bit5: 255,
-        settled: 255,
-        overload: 255,
-        family: 255,
-        refusal: number(why),
+impl From<Result<i64, Refusal>> for QuayValue {
+    ghost from_gives = { λ value answered. answered ≡ value_out value };
+
+    fn from(value: Result<i64, Refusal>) -> QuayValue {
+        match value {
+            Ok(tenths) => QuayValue {
+                value: tenths,
+                refusal: 0,
+            },
+            Err(why) => QuayValue {
+                value: i64::MIN,
+                refusal: u8::from(why),
+            },
+        }
     }
 }
 
-fn value_out(value: Value) -> QuayValue
-    ensures { result ≡ value_out value }
-{
-    match value {
-        Value::Tenths(tenths) => QuayValue {
-            value: tenths,
-            refusal: 0,
-        },
-        Value::Refused(why) => QuayValue {
-            value: i64::MIN,
-            refusal: number(why),
-        },
+impl From<Result<f64, Refusal>> for QuayKilograms {
+    ghost from_gives = { λ weighed answered. answered ≡ kilograms_out weighed };
+
+    #[tactic(auto, using(crate::proofs::NoNumber::no_number))]
+    fn from(weighed: Result<f64, Refusal>) -> QuayKilograms {
+        match weighed {
+            Ok(kilograms) => QuayKilograms {
+                kilograms,
+                refusal: 0,
+            },
+            Err(why) => QuayKilograms {
+                kilograms: f64::NAN,
+                refusal: u8::from(why),
+            },
+        }
     }
 }
 
-fn kilograms_out(weighed: Kilograms) -> QuayKilograms
-    ensures { result ≡ kilograms_out weighed }
+fn value_in(weight: FourBytes) -> Result<i64, Refusal>
+    ensures { result ≡ value_read (read_of weight) }
 {
-    match weighed {
-        Kilograms::Number(kilograms) => QuayKilograms {
-            kilograms,
-            refusal: 0,
-        },
-        Kilograms::Refused(why) => QuayKilograms {
-            kilograms: 0.0 / 0.0,
-            refusal: number(why),
-        },
-    }
+    let reading = read_bytes(weight)?;
+    value_of(reading)
+}
+
+fn difference_in(gross: FourBytes, net: FourBytes) -> Result<i64, Refusal>
+    ensures { result ≡ difference_read (read_of gross) (read_of net) }
+{
+    let gross = read_bytes(gross)?;
+    let net = read_bytes(net)?;
+    gross_less_net(gross, net)
+}
+
+fn kilograms_in(weight: FourBytes) -> Result<f64, Refusal>
+    ensures { result ≡ kilograms_read (read_of weight) }
+{
+    let reading = read_bytes(weight)?;
+    kilograms_of(reading)
 }
 
 // The reading of four bytes, or 8, also for a family that does not exist. An overloaded one is read: its bytes come back, and its value is refused.
@@ -115,10 +132,7 @@ fn kilograms_out(weighed: Kilograms) -> QuayKilograms
 pub extern "C" fn quay_read_weight(weight: FourBytes) -> QuayReading
     ensures { result ≡ reading_out (read_of weight) }
 {
-    match read_bytes(weight) {
-        Read::Good(reading) => good_reading(reading),
-        Read::Refused(why) => no_reading(why),
-    }
+    QuayReading::from(read_bytes(weight))
 }
 
 // The value of a weight in tenths of a milligram, or 8, and then 24 if it is overloaded.
@@ -126,10 +140,7 @@ pub extern "C" fn quay_read_weight(weight: FourBytes) -> QuayReading
 pub extern "C" fn quay_value(weight: FourBytes) -> QuayValue
     ensures { result ≡ value_out (value_read (read_of weight)) }
 {
-    match read_bytes(weight) {
-        Read::Good(reading) => value_out(value_of(reading)),
-        Read::Refused(why) => value_out(Value::Refused(why)),
-    }
+    QuayValue::from(value_in(weight))
 }
 
 // Gross less net in tenths of a milligram, or 8 of either weight, and then 24 of either.
@@ -137,13 +148,7 @@ pub extern "C" fn quay_value(weight: FourBytes) -> QuayValue
 pub extern "C" fn quay_difference(gross: FourBytes, net: FourBytes) -> QuayValue
     ensures { result ≡ value_out (difference_read (read_of gross) (read_of net)) }
 {
-    match read_bytes(gross) {
-        Read::Refused(why) => value_out(Value::Refused(why)),
-        Read::Good(gross_reading) => match read_bytes(net) {
-            Read::Refused(why) => value_out(Value::Refused(why)),
-            Read::Good(net_reading) => value_out(gross_less_net(gross_reading, net_reading)),
-        },
-    }
+    QuayValue::from(difference_in(gross, net))
 }
 
 // A weight in kilograms as a 64-bit float, or 8, and then 24 if it is overloaded.
@@ -151,8 +156,5 @@ pub extern "C" fn quay_difference(gross: FourBytes, net: FourBytes) -> QuayValue
 pub extern "C" fn quay_kilograms(weight: FourBytes) -> QuayKilograms
     ensures { result ≡ kilograms_out (kilograms_read (read_of weight)) }
 {
-    match read_bytes(weight) {
-        Read::Good(reading) => kilograms_out(kilograms_of(reading)),
-        Read::Refused(why) => kilograms_out(Kilograms::Refused(why)),
-    }
+    QuayKilograms::from(kilograms_in(weight))
 }

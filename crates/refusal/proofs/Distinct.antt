@@ -1,13 +1,12 @@
 -- Shown: a refusal's number names that refusal, so two refusals with one number are the same: the number alone tells which it was.
 -- Why: the row with the number of a refusal is its own, case by case.
+use Rattle.std.specs.Prelude.{Some}
 use mathlib.Core.Path.{◌≡◌, ◌∙◌, refl, sym, ap}
 use Rattle.refusal.specs.declared.Refusal.{Refusal}
 use Rattle.refusal.specs.declared.Refusal.TheVariants.{BodyShort, BodyLong, HeldBroken, CheckWrong, AddressIllegal, CodeUnknown, LengthWrong, FieldOutside, RoomShort, LogLeftOver, RecordBroken, HeaderWrong, BytesMissing, ParcelCheckWrong, CountFull, Overloaded, LengthOutside, CheckRight, SumBeyond}
-use Rattle.refusal.specs.declared.Named.{Named}
-use Rattle.refusal.specs.declared.Named.TheVariants as named_as
 use Rattle.refusal.specs.Numbers.{number_of, named_in, named_of}
 
-pub named_back : (refusal : Refusal) → named_of (number_of refusal) ≡ named_as.Refusal refusal
+pub named_back : (refusal : Refusal) → named_of (number_of refusal) ≡ Some refusal
 unfolding named_of named_in
 named_back BodyShort = refl
 named_back BodyLong = refl
@@ -29,10 +28,5 @@ named_back LengthOutside = refl
 named_back CheckRight = refl
 named_back SumBeyond = refl
 
-inside : Named → Refusal → Refusal
-inside (named_as.Refusal why) other = why
-inside named_as.Unknown other = other
-
 pub distinct : (a b : Refusal) → number_of a ≡ number_of b → a ≡ b
-unfolding inside
-distinct a b same = ap (λ (n : Named). inside n a) (sym (named_back a) ∙ ap named_of same ∙ named_back b)
+distinct a b same = let named : Some a ≡ Some b = sym (named_back a) ∙ ap named_of same ∙ named_back b in cc

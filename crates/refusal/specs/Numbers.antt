@@ -1,11 +1,7 @@
 -- 01, "What the answers mean": the number of each refusal, and verdicts whose tests have an order.
-use Rattle.std.specs.Prelude.{ℕ, Bool, true, false, cond, ◌&&◌, List, [], ◌∷◌, leb, eqb}
+use Rattle.std.specs.Prelude.{ℕ, Bool, true, false, cond, ◌&&◌, List, [], ◌∷◌, leb, eqb, Result, Ok, Err, Option, Some, None}
 use Rattle.refusal.specs.declared.Refusal.{Refusal}
 use Rattle.refusal.specs.declared.Refusal.TheVariants.{BodyShort, BodyLong, HeldBroken, CheckWrong, AddressIllegal, CodeUnknown, LengthWrong, FieldOutside, RoomShort, LogLeftOver, RecordBroken, HeaderWrong, BytesMissing, ParcelCheckWrong, CountFull, Overloaded, LengthOutside, CheckRight, SumBeyond}
-use Rattle.refusal.specs.declared.Named.{Named}
-use Rattle.refusal.specs.declared.Named.TheVariants as named_as
-use Rattle.refusal.specs.declared.Verdict.{Verdict}
-use Rattle.refusal.specs.declared.Verdict.TheVariants.{Good, Refused}
 
 -- the column "No." of the table; 02, request 5: "20 header wrong or under 3 bytes, 21 fewer bytes than length and check need, 22 check wrong";
 -- request 6: "31 first, a lent cell whose sum, sign aside, is beyond its count times 9,999,990,000,000"; "23 when a count would pass 65,535"; request 7: "24 overload";
@@ -36,11 +32,11 @@ abbrev pub all : List Refusal
 all = BodyShort ∷ BodyLong ∷ HeldBroken ∷ CheckWrong ∷ AddressIllegal ∷ CodeUnknown ∷ LengthWrong ∷ FieldOutside ∷ RoomShort ∷ LogLeftOver ∷ RecordBroken ∷ HeaderWrong ∷ BytesMissing ∷ ParcelCheckWrong ∷ CountFull ∷ Overloaded ∷ LengthOutside ∷ CheckRight ∷ SumBeyond ∷ []
 
 -- the row with a number
-unfoldable pub named_in : List Refusal → ℕ → Named
-named_in [] number = named_as.Unknown
-named_in (why ∷ rows) number = cond (eqb number (number_of why)) (named_as.Refusal why) (named_in rows number)
+unfoldable pub named_in : List Refusal → ℕ → Option Refusal
+named_in [] number = None
+named_in (why ∷ rows) number = cond (eqb number (number_of why)) (Some why) (named_in rows number)
 
-unfoldable pub named_of : ℕ → Named
+unfoldable pub named_of : ℕ → Option Refusal
 named_of number = named_in all number
 
 -- the refusals that a line can meet, by their numbers. "Log records": "Kind 3 is a refusal met on the line: status 1 to 8". 5 stays among them: a
@@ -49,16 +45,21 @@ abbrev pub line_status : ℕ → Bool
 line_status number = leb 1 number && leb number 8
 
 -- the number of a verdict: 0 if nothing is refused
-abbrev pub verdict_number : Verdict → ℕ
-verdict_number Good = 0
-verdict_number (Refused why) = number_of why
+abbrev pub verdict_number : Result (Unit {0}) Refusal → ℕ
+verdict_number (Ok tt) = 0
+verdict_number (Err why) = number_of why
 
 -- "the order is 1, 4, 5": a chain of tests; the first test that holds refuses
-abbrev pub refuse_if : Bool → Refusal → Verdict → Verdict
-refuse_if true why after = Refused why
+abbrev pub refuse_if : Bool → Refusal → Result (Unit {0}) Refusal → Result (Unit {0}) Refusal
+refuse_if true why after = Err why
 refuse_if false why after = after
 
+-- what an answer says of what was given: refused or not
+abbrev pub verdict_of : {A : Type 0} → Result A Refusal → Result (Unit {0}) Refusal
+verdict_of (Ok value) = Ok tt
+verdict_of (Err why) = Err why
+
 -- an answer under a verdict: of the value where nothing is refused, of the refusal elsewhere
-abbrev pub by_verdict : {A B : Type 0} → (A → B) → (Refusal → B) → Verdict → A → B
-by_verdict good refused Good value = good value
-by_verdict good refused (Refused why) value = refused why
+abbrev pub by_verdict : {A B : Type 0} → (A → B) → (Refusal → B) → Result (Unit {0}) Refusal → A → B
+by_verdict good refused (Ok tt) value = good value
+by_verdict good refused (Err why) value = refused why

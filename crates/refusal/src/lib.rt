@@ -1,13 +1,13 @@
-// The numbered refusals of the rules paper ("What the answers mean") and of the requests of 02, and the verdict that every judge
-// of the layers above gives.
+// The numbered refusals of the rules paper ("What the answers mean") and of the requests of 02. Each is the error of whoever refuses: a judge of the
+// layers above answers `Ok(())` or the refusal.
 
 #![tactic(auto)]
 
-ghost use Rattle.std.specs.Prelude.{◌≡◌};
+ghost use Rattle.std.specs.Prelude.{◌≡◌, ok_or};
 ghost use Rattle.refusal.specs.Numbers.{number_of, named_of, line_status};
 
 // One case for each number of the list, named by its meaning: 1 to 11 of 01, from 20 on of 02.
-#[derive(Clone, Copy)]
+#[derive(Clone, Copy, Debug, PartialEq, Eq)]
 pub enum Refusal {
     BodyShort, // 1: body ended with under 3 bytes, or first byte 00 and under 6
     BodyLong, // 2: 256th body byte; body would pass 255
@@ -30,44 +30,36 @@ pub enum Refusal {
     SumBeyond, // 31: a lent cell's sum, sign aside, is beyond its count times 9,999,990,000,000
 }
 
-// What a judge says of what it was given.
-#[derive(Clone, Copy)]
-pub enum Verdict {
-    Good,
-    Refused(Refusal),
-}
+// A number that no refusal has.
+#[derive(Clone, Copy, Debug, PartialEq, Eq)]
+pub struct NoSuchRefusal(pub u8);
 
-// The refusal that a number names.
-#[derive(Clone, Copy)]
-pub enum Named {
-    Refusal(Refusal),
-    Unknown, // no refusal has the number
-}
+// The paper's number of a refusal. A match and no `refusal as u8`: two cases with one number shall fail the proof, and would not get as far.
+impl From<Refusal> for u8 {
+    ghost from_gives = { λ refusal number. number ≡ number_of refusal };
 
-// The paper's number of a refusal.
-pub fn number(refusal: Refusal) -> u8
-    ensures { result ≡ number_of refusal }
-{
-    match refusal {
-        Refusal::BodyShort => 1,
-        Refusal::BodyLong => 2,
-        Refusal::HeldBroken => 3,
-        Refusal::CheckWrong => 4,
-        Refusal::AddressIllegal => 5,
-        Refusal::CodeUnknown => 6,
-        Refusal::LengthWrong => 7,
-        Refusal::FieldOutside => 8,
-        Refusal::RoomShort => 9,
-        Refusal::LogLeftOver => 10,
-        Refusal::RecordBroken => 11,
-        Refusal::HeaderWrong => 20,
-        Refusal::BytesMissing => 21,
-        Refusal::ParcelCheckWrong => 22,
-        Refusal::CountFull => 23,
-        Refusal::Overloaded => 24,
-        Refusal::LengthOutside => 25,
-        Refusal::CheckRight => 26,
-        Refusal::SumBeyond => 31,
+    fn from(refusal: Refusal) -> u8 {
+        match refusal {
+            Refusal::BodyShort => 1,
+            Refusal::BodyLong => 2,
+            Refusal::HeldBroken => 3,
+            Refusal::CheckWrong => 4,
+            Refusal::AddressIllegal => 5,
+            Refusal::CodeUnknown => 6,
+            Refusal::LengthWrong => 7,
+            Refusal::FieldOutside => 8,
+            Refusal::RoomShort => 9,
+            Refusal::LogLeftOver => 10,
+            Refusal::RecordBroken => 11,
+            Refusal::HeaderWrong => 20,
+            Refusal::BytesMissing => 21,
+            Refusal::ParcelCheckWrong => 22,
+            Refusal::CountFull => 23,
+            Refusal::Overloaded => 24,
+            Refusal::LengthOutside => 25,
+            Refusal::CheckRight => 26,
+            Refusal::SumBeyond => 31,
+        }
     }
 }
 
@@ -75,33 +67,38 @@ pub fn number(refusal: Refusal) -> u8
 pub fn line_status(number: u8) -> bool
     ensures { result ≡ line_status number }
 {
-    (1 <= number) & (number <= 8)
+    (1..=8).contains(&number)
 }
 
 // The refusal with a number that a caller in another language or a log's record gives.
-pub fn of_number(number: u8) -> Named
-    ensures { result ≡ named_of number }
-{
-    match number {
-        1 => Named::Refusal(Refusal::BodyShort),
-        2 => Named::Refusal(Refusal::BodyLong),
-        3 => Named::Refusal(Refusal::HeldBroken),
-        4 => Named::Refusal(Refusal::CheckWrong),
-        5 => Named::Refusal(Refusal::AddressIllegal),
-        6 => Named::Refusal(Refusal::CodeUnknown),
-        7 => Named::Refusal(Refusal::LengthWrong),
-        8 => Named::Refusal(Refusal::FieldOutside),
-        9 => Named::Refusal(Refusal::RoomShort),
-        10 => Named::Refusal(Refusal::LogLeftOver),
-        11 => Named::Refusal(Refusal::RecordBroken),
-        20 => Named::Refusal(Refusal::HeaderWrong),
-        21 => Named::Refusal(Refusal::BytesMissing),
-        22 => Named::Refusal(Refusal::ParcelCheckWrong),
-        23 => Named::Refusal(Refusal::CountFull),
-        24 => Named::Refusal(Refusal::Overloaded),
-        25 => Named::Refusal(Refusal::LengthOutside),
-        26 => Named::Refusal(Refusal::CheckRight),
-        31 => Named::Refusal(Refusal::SumBeyond),
-        _ => Named::Unknown,
+impl TryFrom<u8> for Refusal {
+    type Error = NoSuchRefusal;
+
+    ghost try_from_gives = { λ number result. result ≡ ok_or (named_of number) (record { 0 = number }) };
+
+    #[tactic(auto, unfolding(crate::specs::Numbers::named_of, crate::specs::Numbers::named_in))]
+    fn try_from(number: u8) -> Result<Refusal, NoSuchRefusal> {
+        match number {
+            1 => Ok(Refusal::BodyShort),
+            2 => Ok(Refusal::BodyLong),
+            3 => Ok(Refusal::HeldBroken),
+            4 => Ok(Refusal::CheckWrong),
+            5 => Ok(Refusal::AddressIllegal),
+            6 => Ok(Refusal::CodeUnknown),
+            7 => Ok(Refusal::LengthWrong),
+            8 => Ok(Refusal::FieldOutside),
+            9 => Ok(Refusal::RoomShort),
+            10 => Ok(Refusal::LogLeftOver),
+            11 => Ok(Refusal::RecordBroken),
+            20 => Ok(Refusal::HeaderWrong),
+            21 => Ok(Refusal::BytesMissing),
+            22 => Ok(Refusal::ParcelCheckWrong),
+            23 => Ok(Refusal::CountFull),
+            24 => Ok(Refusal::Overloaded),
+            25 => Ok(Refusal::LengthOutside),
+            26 => Ok(Refusal::CheckRight),
+            31 => Ok(Refusal::SumBeyond),
+            _ => Err(NoSuchRefusal(number)),
+        }
     }
 }

@@ -1,17 +1,16 @@
 -- Shown: what pieces laid one behind the other leave in a room, and its length.
 -- Why: a piece laid behind what is there already makes one longer piece over the same room.
-use Prim.Native.Nat.{ℕ, suc, ◌+◌, ◌/◌, ◌%◌, ◌^◌, ◌≤◌, ◌<◌}
+use Prim.Native.Nat.{ℕ, ◌+◌, ◌≤◌, ◌<◌}
 use mathlib.Core.Path.{◌≡◌, ◌∙◌, sym, ap}
-use mathlib.Core.List.{List, [], ◌∷◌, ◌++◌, append_assoc}
+use mathlib.Core.List.{List, [], ◌++◌, append_assoc}
 use native.Mathlib.Omega.{arith}
 use borrow.Author.Tests.{le-leb, lt-leb}
-use lib.ListN.{length, take, drop, set, length-append, length-drop, take-append-drop}
-use lib.Seq.{length-take-le, set_split, take_at, drop-append-add, drop-drop}
-use native.Mathlib.Numerals.{add-one}
+use lib.ListN.{length, take, drop, length-append, length-drop, take-append-drop}
+use Rattle.std.proofs.lemmas.List.{take_more_set}
+use lib.Seq.{length-take-le, take_all, take_at, drop-append-add, drop-drop}
 use native.Mathlib.Nat.{add-zero, zero-add, add_assoc}
 use borrow.Rule.Slice.PartMut.{put_mid}
-use Rattle.low_first.specs.LowFirst.{low_bytes}
-use Rattle.low_first.proofs.Digits.{low_length, low_next}
+use Rattle.low_first.proofs.Digits.{low_steps}
 use Rattle.room.specs.Laying.{over, laid, behind, Laid}
 
 pub over_length : (bytes room : List ℕ) → length bytes ≤ length room → length (over bytes room) ≡ length room
@@ -44,28 +43,23 @@ pub behind_fits : (at : ℕ) (bytes room : List ℕ) → at + length bytes ≤ l
 unfolding behind
 behind_fits at bytes room h = rw (le-leb _ _ h)
 
--- what a piece leaves, as a promise: nothing where it does not fit
-pub unlaid : (at : ℕ) (bytes room : List ℕ) → length room < at + length bytes → Laid at bytes room at room
-unfolding laid behind
-unlaid at bytes room h = record { place = rw (lt-leb _ _ h); room = rw (lt-leb _ _ h) }
+-- a piece that does not fit: the place and the room as they were
+pub laid_not : (at : ℕ) (bytes room : List ℕ) → length room < at + length bytes → laid at bytes room ≡ room
+unfolding laid
+laid_not at bytes room h = rw (lt-leb _ _ h)
 
--- one byte where it fits
-pub set_laid : (at byte : ℕ) (room : List ℕ) → at < length room → Laid at (byte ∷ []) room (at + 1) (set room at byte)
-set_laid at byte room h =
-    let fits : at + length (byte ∷ []) ≤ length room = omega arith in
-    record {
-      place = sym (behind_fits at (byte ∷ []) room fits);
-      room = set_split room at byte h ∙ ap (λ (n : ℕ). take at room ++ (byte ∷ drop n room)) (sym (add-one at)) ∙ sym (laid_is at (byte ∷ []) room fits);
-    }
+pub behind_not : (at : ℕ) (bytes room : List ℕ) → length room < at + length bytes → behind at bytes room ≡ at
+unfolding behind
+behind_not at bytes room h = rw (lt-leb _ _ h)
 
--- a slice copied to where it fits
-pub part_laid : (at count : ℕ) (source room part : List ℕ) → at + length source ≤ length room → count ≡ length source → part ≡ source
-    → Laid at source room (at + length source) (put_mid at count room part)
-part_laid at count source room part h sized e =
-    record {
-      place = sym (behind_fits at source room h);
-      room = rw (e, sized, drop-drop) (sym (laid_is at source room h));
-    }
+-- a piece copied into the part of the room where it fits
+pub part_laid : (at count : ℕ) (piece room part : List ℕ) → at + length piece ≤ length room → count ≡ length piece → part ≡ piece
+    → put_mid at count room part ≡ laid at piece room
+part_laid at count piece room part h sized e = rw (e, sized, drop-drop) (sym (laid_is at piece room h))
+
+pub ruleset pieces = (laid_not, behind_not, behind_fits, part_laid)
+
+pub ruleset low_pieces = (pieces, low_steps, take_more_set, take_all)
 
 -- no piece at all
 pub laid_none : (at : ℕ) (room : List ℕ) → at ≤ length room → Laid at [] room at room
@@ -106,18 +100,17 @@ laid_then {at} {next} {last} {first} {second} {room} {middle} {left} h l m =
           ∙ sym (laid_fits at (first ++ second) room both);
     }
 
--- a number's bytes, the next behind those before it
-pub low_laid : {at next last : ℕ} {room middle left : List ℕ} (count number : ℕ) → at + suc count ≤ length room
-    → Laid at (low_bytes count number) room next middle → Laid next (number / 256 ^ count % 256 ∷ []) middle last left
-    → Laid at (low_bytes (suc count) number) room last left
-low_laid count number h l m = let size = low_length count number in
-    rw (low_next count number) (laid_then (omega arith) l m)
-
 -- a piece at the front of a room
+pub laid_at_front : (bytes room : List ℕ) → length bytes ≤ length room → laid 0 bytes room ≡ over bytes room
+laid_at_front bytes room h = laid_fits 0 bytes room (omega arith)
+
+pub behind_at_front : (bytes room : List ℕ) → length bytes ≤ length room → behind 0 bytes room ≡ length bytes
+behind_at_front bytes room h = behind_fits 0 bytes room (omega arith) ∙ zero-add (length bytes)
+
+pub ruleset at_front = (laid_at_front, behind_at_front)
+
 pub laid_front : {next : ℕ} {bytes room left : List ℕ} → length bytes ≤ length room → Laid 0 bytes room next left → (next ≡ length bytes) × (left ≡ over bytes room)
-laid_front {next} {bytes} {room} {left} h l =
-    let fits : 0 + length bytes ≤ length room = omega arith in
-    (l.place ∙ behind_fits 0 bytes room fits ∙ zero-add (length bytes), l.room ∙ laid_fits 0 bytes room fits)
+laid_front {next} {bytes} {room} {left} h l = (l.place ∙ behind_at_front bytes room h, l.room ∙ laid_at_front bytes room h)
 
 -- it ends inside the room
 pub laid_end : {next : ℕ} {bytes room left : List ℕ} → length bytes ≤ length room → Laid 0 bytes room next left → next ≤ length left

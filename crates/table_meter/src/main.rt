@@ -5,56 +5,43 @@
 
 use blocks::read_full;
 use hour_cell::Cell;
-use hour_table::{empty_table, fill, table_of};
-use refusal::Verdict;
+use hour_table::{Filled, empty_table, fill};
+use refusal::Refusal;
 use std::io;
 use std::io::Read;
-use std::num::wrapping_add_u64;
 
 const BLOCK: usize = 56_000;
 
-#[derive(Clone, Copy)]
+fn sum_of_cell(cell: Cell) -> u64 {
+    let counts = (cell.weights as u64).wrapping_add(cell.refused as u64);
+    counts.wrapping_add(hour_cell::size_of(cell.sum))
+}
+
+fn sum_of_row(row: &[Cell; 24]) -> u64 {
+    row.iter()
+        .fold(0, |sum: u64, cell| sum.wrapping_add(sum_of_cell(*cell)))
+}
+
+fn sum_of(table: &[[Cell; 24]; 7]) -> u64 {
+    table
+        .iter()
+        .fold(0, |sum: u64, row| sum.wrapping_add(sum_of_row(row)))
+}
+
+fn stops(verdict: Result<(), Refusal>) -> u64 {
+    verdict.is_err() as u64
+}
+
 struct Told {
     good: u64,
     stopped: u64,
     sum: u64,
 }
 
-fn stops(verdict: Verdict) -> u64 {
-    match verdict {
-        Verdict::Good => 0,
-        Verdict::Refused(_) => 1,
-    }
-}
-
-fn sum_of_cell(cell: Cell) -> u64 {
-    let counts = wrapping_add_u64(cell.weights as u64, cell.refused as u64);
-    wrapping_add_u64(counts, hour_cell::size_of(cell.sum))
-}
-
-fn sum_of_row(row: [Cell; 24]) -> u64 {
-    let mut sum = 0u64;
-    let mut hour = 0;
-    while hour < 24 {
-        sum = wrapping_add_u64(sum, sum_of_cell(row[hour]));
-        hour += 1;
-    }
-    sum
-}
-
-fn sum_of(table: [[Cell; 24]; 7]) -> u64 {
-    let mut sum = 0u64;
-    let mut weekday = 0;
-    while weekday < 7 {
-        sum = wrapping_add_u64(sum, sum_of_row(table[weekday]));
-        weekday += 1;
-    }
-    sum
-}
-
 // A proved loop has to end, but nothing says that an input ends. So the turns are counted up to a number that no run uses up.
+// The meters repeat this loop: a library function over what is done with a block would need a `requires` on it, and no public function has one.
 fn fill_all(input: &mut impl Read, block: &mut [u8]) -> io::Result<Told> {
-    let mut table = empty_table();
+    let mut filled_before = empty_table();
     let mut good = 0u64;
     let mut stopped = 0u64;
     for _ in 0..u64::MAX {
@@ -62,22 +49,24 @@ fn fill_all(input: &mut impl Read, block: &mut [u8]) -> io::Result<Told> {
         if count == 0 {
             break;
         }
-        let filled = fill(&block[..count], table);
-        let verdict = filled.verdict;
-        good = wrapping_add_u64(good, filled.records as u64);
-        stopped = wrapping_add_u64(stopped, stops(verdict));
-        table = table_of(filled);
+        let Filled {
+            table,
+            records,
+            verdict,
+        } = fill(&block[..count], filled_before);
+        good = good.wrapping_add(records as u64);
+        stopped = stopped.wrapping_add(stops(verdict));
+        filled_before = table;
     }
     Ok(Told {
         good,
         stopped,
-        sum: sum_of(table),
+        sum: sum_of(&filled_before),
     })
 }
 
 fn main(rt: HostRuntime) -> io::Result<()> {
     let mut block = [0u8; BLOCK];
-    let told = fill_all(&mut rt.stdin(), &mut block)?;
-    let Told { good, stopped, sum } = told;
+    let Told { good, stopped, sum } = fill_all(&mut rt.stdin(), &mut block)?;
     println!(rt; "good {good} refused {stopped} sum {sum}")
 }

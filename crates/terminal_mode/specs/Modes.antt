@@ -1,17 +1,12 @@
 -- 02, request 4: "The loadmaster asks whether a weight was net mode or the second platform." Which bit answers a question, and whether the family has
 -- such a bit, is read off the table of families (`terminal`).
-use Rattle.std.specs.Prelude.{ℕ, Bool, true, false, cond, eqb}
+use Rattle.std.specs.Prelude.{ℕ, Bool, true, false, cond, eqb, Result, Ok, Err, Option, Some, None}
 use Rattle.refusal.specs.declared.Refusal.TheVariants.{FieldOutside}
 use Rattle.weight.specs.declared.Reading.{Reading}
 use Rattle.weight.specs.Families.{Called, plain_bit, key_code, net_mode, event, scale_number, reserved, terminal}
 use Rattle.weight.specs.Bytes.{in_range}
-use Rattle.terminal_mode.specs.declared.Answer.{Answer}
-use Rattle.terminal_mode.specs.declared.Answer.TheVariants as answer_as
-use Rattle.terminal_mode.specs.declared.Platform.{Platform}
-use Rattle.terminal_mode.specs.declared.Platform.TheVariants as platform_as
 use Rattle.terminal_mode.specs.declared.Mode.{Mode}
-use Rattle.terminal_mode.specs.declared.ModeTold.{ModeTold}
-use Rattle.terminal_mode.specs.declared.ModeTold.TheVariants as told_as
+use Rattle.refusal.specs.declared.Refusal.{Refusal}
 
 -- a number for each name, so that two names can be compared
 abbrev pub rank : Called → ℕ
@@ -26,15 +21,10 @@ rank reserved = 5
 abbrev pub same : Called → Called → Bool
 same a b = eqb (rank a) (rank b)
 
--- what a bit answers where the family has it
-abbrev pub yes_or_no : Bool → Answer
-yes_or_no true = answer_as.Yes
-yes_or_no false = answer_as.No
-
 -- "current scale number": 0 or 1
-abbrev pub scale : Bool → Platform
-scale true = platform_as.Scale 1
-scale false = platform_as.Scale 0
+abbrev pub scale : Bool → Option ℕ
+scale true = Some 1
+scale false = Some 0
 
 -- what the bit that is called so tells: bit 6, bit 5, or that the family has no such bit
 abbrev pub asked : {A : Type 0} → Called → (Bool → A) → A → Reading → A
@@ -45,12 +35,12 @@ asked called tells none reading =
 -- was it in net mode, which platform, was a key code or an event there
 abbrev pub mode_by_family : Reading → Mode
 mode_by_family reading = record {
-  net = asked net_mode yes_or_no answer_as.NoSuchBit reading;
-  platform = asked scale_number scale platform_as.NoSuchBit reading;
-  key = asked key_code yes_or_no answer_as.NoSuchBit reading;
-  event = asked event yes_or_no answer_as.NoSuchBit reading;
+  net = asked net_mode Some None reading;
+  platform = asked scale_number scale None reading;
+  key = asked key_code Some None reading;
+  event = asked event Some None reading;
 }
 
 -- 8 first, as wherever a reading is used
-unfoldable pub mode_of : Reading → ModeTold
-mode_of reading = cond (in_range reading) (told_as.Mode (mode_by_family reading)) (told_as.Refused FieldOutside)
+unfoldable pub mode_of : Reading → Result Mode Refusal
+mode_of reading = cond (in_range reading) (Ok (mode_by_family reading)) (Err FieldOutside)

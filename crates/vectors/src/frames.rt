@@ -3,9 +3,8 @@ use crate::given::{part, take_address, take_byte};
 use crate::words::{
     say_address, say_bytes, say_flag, say_good, say_number, say_refusal, say_small, say_verdict,
 };
-use body::{Opened, Parts};
-use frame::Needed;
-use room::Written;
+use body::Parts;
+use refusal::Refusal;
 use std::io;
 use std::io::{Stdin, Stdout};
 
@@ -36,9 +35,8 @@ pub(crate) fn judge(text: &[u8], out: Stdout) -> io::Result<()> {
 }
 
 fn say_parts(parts: Parts, body: &[u8], out: Stdout) -> io::Result<()> {
-    let address = parts.address;
     say_good(out)?;
-    say_address(address, out)?;
+    say_address(parts.address, out)?;
     say_small(parts.code, out)?;
     say_bytes(part(body, parts.from, parts.to), out)
 }
@@ -46,16 +44,16 @@ fn say_parts(parts: Parts, body: &[u8], out: Stdout) -> io::Result<()> {
 // A lent body; its address, code and data.
 pub(crate) fn open(text: &[u8], out: Stdout) -> io::Result<()> {
     match body::open(text) {
-        Opened::Refused(why) => say_refusal(why, out),
-        Opened::Parts(parts) => say_parts(parts, text, out),
+        Err(why) => say_refusal(why, out),
+        Ok(parts) => say_parts(parts, text, out),
     }
 }
 
 // Data, address and code; the room that their frame needs.
 pub(crate) fn room_needed(text: &[u8], input: Stdin, out: Stdout) -> io::Result<()> {
     match frame::room_needed(take_address(input)?, take_byte(input)?, text) {
-        Needed::Refused(why) => say_refusal(why, out),
-        Needed::Bytes(needed) => {
+        Err(why) => say_refusal(why, out),
+        Ok(needed) => {
             say_good(out)?;
             say_number(needed as u64, out)
         }
@@ -63,6 +61,10 @@ pub(crate) fn room_needed(text: &[u8], input: Stdin, out: Stdout) -> io::Result<
 }
 
 // Data, lent room, address and code.
-pub(crate) fn write(text: &[u8], room: &mut [u8], input: Stdin) -> io::Result<Written> {
+pub(crate) fn write(
+    text: &[u8],
+    room: &mut [u8],
+    input: Stdin,
+) -> io::Result<Result<usize, Refusal>> {
     Ok(frame::write(take_address(input)?, take_byte(input)?, text, room))
 }

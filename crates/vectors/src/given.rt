@@ -1,72 +1,52 @@
 // What a case hands in beside its text: numbers, low byte first, taken from standard input one after the other. Past the input's end they
 // are 0. So a case cut short gives a wrong answer, and that is seen.
-ghost use Rattle.std.specs.Prelude.{◌<◌, ◌≤◌, IfOk};
+ghost use Rattle.std.specs.Prelude.{◌≤◌, IfOk};
 
 use blocks::read_full;
 use body::Address;
 use codes::Role;
 use std::io;
 use std::io::Stdin;
-use weight::{Family, FamilyNamed, Reading, family_named};
+use weight::{Family, Reading};
 
 // The longest text, and the longest room.
 pub(crate) const LONGEST_GIVEN: usize = 4096;
 
-pub(crate) fn take_byte(mut input: Stdin) -> io::Result<u8> {
-    let mut one = [0u8; 1];
-    read_full(&mut input, &mut one)?;
-    Ok(one[0])
+fn take<const COUNT: usize>(mut input: Stdin) -> io::Result<[u8; COUNT]> {
+    let mut bytes = [0u8; COUNT];
+    read_full(&mut input, &mut bytes)?;
+    Ok(bytes)
+}
+
+pub(crate) fn take_byte(input: Stdin) -> io::Result<u8> {
+    let [byte] = take::<1>(input)?;
+    Ok(byte)
 }
 
 pub(crate) fn take_flag(input: Stdin) -> io::Result<bool> {
     Ok(take_byte(input)? != 0)
 }
 
-fn take_wide(input: Stdin) -> io::Result<usize>
-    ensures { IfOk result (λ n. n < 256) }
-{
-    Ok(take_byte(input)? as usize)
-}
-
 // Two bytes.
-pub(crate) fn take_half(input: Stdin) -> io::Result<usize>
-    ensures { IfOk result (λ n. n < 65536) }
-{
-    let low = take_wide(input)?;
-    let high = take_wide(input)?;
-    Ok(high * 256 + low)
+pub(crate) fn take_half(input: Stdin) -> io::Result<usize> {
+    Ok(usize::from(u16::from_le_bytes(take::<2>(input)?)))
 }
 
 // Two bytes of a length.
 pub(crate) fn take_length(input: Stdin) -> io::Result<usize>
     ensures { IfOk result (λ n. n ≤ 4096) }
 {
-    let length = take_half(input)?;
-    if LONGEST_GIVEN < length {
-        return Ok(LONGEST_GIVEN);
-    }
-    Ok(length)
+    Ok(take_half(input)?.min(LONGEST_GIVEN))
 }
 
 // Four bytes.
 pub(crate) fn take_word(input: Stdin) -> io::Result<u32> {
-    let low = take_half(input)?;
-    let high = take_half(input)?;
-    let word = high * 65536 + low;
-    Ok(word as u32)
-}
-
-fn take_wider(input: Stdin) -> io::Result<u64>
-    ensures { IfOk result (λ n. n < 4294967296) }
-{
-    Ok(take_word(input)? as u64)
+    Ok(u32::from_le_bytes(take::<4>(input)?))
 }
 
 // Eight bytes.
 pub(crate) fn take_number(input: Stdin) -> io::Result<u64> {
-    let low = take_wider(input)?;
-    let high = take_wider(input)?;
-    Ok(high * 4294967296 + low)
+    Ok(u64::from_le_bytes(take::<8>(input)?))
 }
 
 // 0 for a short address and 1 for a serial, and four bytes of its number.
@@ -76,7 +56,7 @@ pub(crate) fn take_address(input: Stdin) -> io::Result<Address> {
     if is_serial {
         return Ok(Address::Serial(number));
     }
-    Ok(Address::Short((number % 256) as u8))
+    Ok(Address::Short((number & 0xff) as u8))
 }
 
 // 0 for a request and 1 for a reply.
@@ -89,10 +69,7 @@ pub(crate) fn take_role(input: Stdin) -> io::Result<Role> {
 
 // A family by its number. One that does not exist is handed in by none of the cases.
 pub(crate) fn take_family(input: Stdin) -> io::Result<Family> {
-    match family_named(take_byte(input)?) {
-        FamilyNamed::Family(family) => Ok(family),
-        FamilyNamed::Unknown => Ok(Family::Plain),
-    }
+    Ok(Family::try_from(take_byte(input)?).unwrap_or(Family::Plain))
 }
 
 // Minus, four bytes of the number, point, bit 6, bit 5, settled, overload, family.
@@ -111,11 +88,5 @@ pub(crate) fn take_reading(input: Stdin) -> io::Result<Reading> {
 
 // The bytes from one place up to but not including another. A part past the end is empty.
 pub(crate) fn part(text: &[u8], from: usize, to: usize) -> &[u8] {
-    if to < from {
-        return &text[0..0];
-    }
-    if text.len() < to {
-        return &text[0..0];
-    }
-    &text[from..to]
+    text.get(from..to).unwrap_or(&[])
 }

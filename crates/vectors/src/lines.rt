@@ -1,21 +1,21 @@
 // Cases of the listener: one byte, one block, a whole capture.
-ghost use Rattle.std.specs.Prelude.{◌<◌, ◌≤◌};
+ghost use Rattle.std.specs.Prelude.{◌<◌, ◌≤◌, length};
 
 use crate::given::{part, take_byte, take_half, take_number};
 use crate::words::{say_bytes, say_number, say_refused, say_small, say_tagged};
-use line::{BodyPlace, Event, Phase, Place, Reader, WirePlace};
-use refusal::{Named, of_number};
+use line::{BodyPlace, Event, Fed, Phase, Place, Reader, Taken, WirePlace};
+use refusal::Refusal;
 use room::lay;
 use std::io;
 use std::io::{Stdin, Stdout};
 
 fn take_phase(input: Stdin) -> io::Result<Phase> {
-    match take_byte(input)? {
-        0 => Ok(Phase::Seeking),
-        1 => Ok(Phase::Delimited),
-        2 => Ok(Phase::Inside),
-        _ => Ok(Phase::Held),
-    }
+    Ok(match take_byte(input)? {
+        0 => Phase::Seeking,
+        1 => Phase::Delimited,
+        2 => Phase::Inside,
+        _ => Phase::Held,
+    })
 }
 
 // Phase, eight bytes of the wire count, eight of the kept count.
@@ -32,10 +32,10 @@ pub(crate) fn take_event(input: Stdin) -> io::Result<Event> {
     let number = take_byte(input)?;
     let wire = WirePlace(take_number(input)?);
     let kept = BodyPlace(take_number(input)? as usize);
-    match of_number(number) {
-        Named::Unknown => Ok(Event::Frame(wire, kept)),
-        Named::Refusal(why) => Ok(Event::Refused(why, wire, kept)),
-    }
+    Ok(match Refusal::try_from(number) {
+        Ok(why) => Event::Refused(why, wire, kept),
+        Err(_) => Event::Frame(wire, kept),
+    })
 }
 
 // A state with some bytes at the front of its 255, zeros behind them.
@@ -60,25 +60,22 @@ fn phase_number(phase: Phase) -> u8 {
 // A state handed back. The bytes behind its kept bytes are of older bodies and are not told.
 fn say_place(place: Place, body: &[u8], out: Stdout) -> io::Result<()> {
     let kept = place.kept.0;
-    let phase = place.phase;
-    say_small(phase_number(phase), out)?;
+    say_small(phase_number(place.phase), out)?;
     say_number(place.wire.0, out)?;
     say_number(kept as u64, out)?;
     say_bytes(part(body, 0, kept), out)
 }
 
-fn say_frame(wire: u64, count: usize, body: &[u8], out: Stdout) -> io::Result<()> {
-    say_tagged(1, wire, out)?;
-    say_number(count as u64, out)?;
-    say_bytes(part(body, 0, count), out)
-}
-
 // What an event tells: its counts, and the body or the refusal's number.
-pub(crate) fn say_event(event: Event, body: &[u8], out: Stdout) -> io::Result<()> {
+pub(crate) fn say_event(event: Option<Event>, body: &[u8], out: Stdout) -> io::Result<()> {
     match event {
-        Event::Nothing => say_small(0, out),
-        Event::Frame(wire, kept) => say_frame(wire.0, kept.0, body, out),
-        Event::Refused(why, wire, kept) => {
+        None => say_small(0, out),
+        Some(Event::Frame(wire, kept)) => {
+            say_tagged(1, wire.0, out)?;
+            say_number(kept.0 as u64, out)?;
+            say_bytes(part(body, 0, kept.0), out)
+        }
+        Some(Event::Refused(why, wire, kept)) => {
             say_refused(why, out)?;
             say_number(wire.0, out)?;
             say_number(kept.0 as u64, out)
@@ -87,9 +84,8 @@ pub(crate) fn say_event(event: Event, body: &[u8], out: Stdout) -> io::Result<()
 }
 
 // The next state, the bytes taken, the event.
-fn say_heard(reader: Reader, used: usize, event: Event, out: Stdout) -> io::Result<()> {
-    let place = reader.place;
-    say_place(place, &reader.body, out)?;
+fn say_heard(reader: Reader, used: usize, event: Option<Event>, out: Stdout) -> io::Result<()> {
+    say_place(reader.place, &reader.body, out)?;
     say_number(used as u64, out)?;
     say_event(event, &reader.body, out)
 }
@@ -97,9 +93,10 @@ fn say_heard(reader: Reader, used: usize, event: Event, out: Stdout) -> io::Resu
 // Bytes of the state, place, byte; the next state, the one byte taken, the event.
 pub(crate) fn take(text: &[u8], input: Stdin, out: Stdout) -> io::Result<()> {
     let reader = take_reader(text, input)?;
-    let taken = reader.take(take_byte(input)?);
-    let next = taken.reader;
-    let event = taken.event;
+    let Taken {
+        reader: next,
+        event,
+    } = reader.take(take_byte(input)?);
     say_heard(next, 1, event, out)
 }
 
@@ -107,63 +104,57 @@ pub(crate) fn take(text: &[u8], input: Stdin, out: Stdout) -> io::Result<()> {
 pub(crate) fn feed(text: &[u8], input: Stdin, out: Stdout) -> io::Result<()> {
     let end = take_half(input)?;
     let reader = take_reader(part(text, 0, end), input)?;
-    let fed = reader.feed(part(text, end, text.len()));
-    let next = fed.reader;
-    let event = fed.event;
-    say_heard(next, fed.used, event, out)
+    let Fed {
+        reader: next,
+        event,
+        used,
+    } = reader.feed(part(text, end, text.len()));
+    say_heard(next, used, event, out)
 }
 
 // The same, with the 255 bytes lent.
 pub(crate) fn listen(text: &[u8], input: Stdin, out: Stdout) -> io::Result<()> {
     let end = take_half(input)?;
     let reader = take_reader(part(text, 0, end), input)?;
-    let place = reader.place;
-    let mut body = reader.body;
+    let Reader { place, mut body } = reader;
     let went = place.listen(part(text, end, text.len()), &mut body);
-    let place = went.place;
-    let next = Reader { place, body };
-    let event = went.event;
-    say_heard(next, went.used, event, out)
+    let next = Reader {
+        place: went.place,
+        body,
+    };
+    say_heard(next, went.used, went.event, out)
 }
 
-// An event where there is one; how many there are by then.
-fn told(event: Event, body: &[u8; 255], events: u64, out: Stdout) -> io::Result<u64> {
-    if let Event::Nothing = event {
-        return Ok(events);
-    }
-    let all: &[u8] = body;
-    say_event(event, all, out)?;
-    Ok(std::num::wrapping_add_u64(events, 1))
-}
-
-// Where a block of at most so many bytes ends. A size of 0 is none.
-fn block_end(at: usize, size: usize, length: usize) -> usize
-    requires { at < length }
-    ensures { (at < result) × (result ≤ length) }
+// The front of a capture that is not empty: at most so many bytes, and one at least. A size of 0 is no bound.
+fn next_block(capture: &[u8], size: usize) -> &[u8]
+    requires { 0 < length capture.now }
+    ensures { (0 < length result.now) × (length result.now ≤ length capture.now) }
 {
-    if size == 0 {
-        return length;
+    match size {
+        0 => capture,
+        _ => capture.get(..size).unwrap_or(capture),
     }
-    if length - at < size {
-        return length;
-    }
-    at + size
 }
 
 // Capture and block size; its events from a fresh reader, and how many they are.
 pub(crate) fn hear(text: &[u8], input: Stdin, out: Stdout) -> io::Result<()> {
     let size = take_half(input)?;
     let mut reader = Reader::new();
-    let mut events = 0;
-    let mut at = 0;
-    while at < text.len() {
-        let stop = block_end(at, size, text.len());
-        let fed = reader.feed(&text[at..stop]);
-        let next = fed.reader;
-        let event = fed.event;
-        events = told(event, &next.body, events, out)?;
+    let mut events = 0u64;
+    let mut rest = text;
+    // Each turn goes on by an event and not by a byte, so there is a measure and no `for`.
+    while !rest.is_empty() {
+        let Fed {
+            reader: next,
+            event,
+            used,
+        } = reader.feed(next_block(rest, size));
         reader = next;
-        at += fed.used;
+        rest = &rest[used..];
+        if event.is_some() {
+            say_event(event, &reader.body, out)?;
+            events = events.wrapping_add(1);
+        }
     }
     say_number(events, out)
 }

@@ -3,11 +3,10 @@ use crate::given::{take_byte, take_family, take_number, take_role, take_word};
 use crate::lines::take_event;
 use crate::weights::say_read;
 use crate::words::{say_bytes, say_good, say_number, say_refusal, say_refused, say_small};
-use records::{Record, RecordRead, Stepped};
-use room::Written;
+use records::Record;
+use refusal::Refusal;
 use std::io;
 use std::io::{Stdin, Stdout};
-use weighing_log::Noted;
 
 // Eight bytes of the time, kind, address, four of the serial, status, W0 W1 W2, family.
 fn take_record(input: Stdin) -> io::Result<Record> {
@@ -38,8 +37,8 @@ fn say_record(record: Record, out: Stdout) -> io::Result<()> {
 // Bytes; their record.
 pub(crate) fn read(text: &[u8], out: Stdout) -> io::Result<()> {
     match records::read_record(text) {
-        RecordRead::Refused(why) => say_refusal(why, out),
-        RecordRead::Record(record) => {
+        Err(why) => say_refusal(why, out),
+        Ok(record) => {
             say_good(out)?;
             say_record(record, out)
         }
@@ -52,26 +51,26 @@ pub(crate) fn heard(text: &[u8], input: Stdin, out: Stdout) -> io::Result<()> {
     let role = take_role(input)?;
     let family = take_family(input)?;
     let event = take_event(input)?;
-    match weighing_log::note(time, role, family, event, text) {
-        Noted::Nothing => say_small(0, out),
-        Noted::Record(record) => {
+    match weighing_log::note(time, role, family, Some(event), text) {
+        Ok(None) => say_small(0, out),
+        Ok(Some(record)) => {
             say_small(1, out)?;
             say_record(record, out)
         }
-        Noted::Refused(why) => say_refused(why, out),
+        Err(why) => say_refused(why, out),
     }
 }
 
 // Log and place; the record there and the place behind it.
 pub(crate) fn step(text: &[u8], input: Stdin, out: Stdout) -> io::Result<()> {
     match records::step(text, take_number(input)? as usize) {
-        Stepped::End => say_small(0, out),
-        Stepped::Record(record, next) => {
+        Ok(None) => say_small(0, out),
+        Ok(Some((record, next))) => {
             say_small(1, out)?;
             say_record(record, out)?;
             say_number(next as u64, out)
         }
-        Stepped::Refused(why) => say_refused(why, out),
+        Err(why) => say_refused(why, out),
     }
 }
 
@@ -81,6 +80,6 @@ pub(crate) fn noted(input: Stdin, out: Stdout) -> io::Result<()> {
 }
 
 // Lent room and a record.
-pub(crate) fn write(room: &mut [u8], input: Stdin) -> io::Result<Written> {
+pub(crate) fn write(room: &mut [u8], input: Stdin) -> io::Result<Result<usize, Refusal>> {
     Ok(records::write_record(take_record(input)?, room))
 }

@@ -1,12 +1,12 @@
 // Cases of the capture walker: one step, and a walk to the end.
 use crate::given::{part, take_half, take_number};
 use crate::lines::say_event;
-use crate::words::{say_bytes, say_number, say_small};
-use capture_walker::{Next, Stepped, Walker};
+use crate::words::{say_bytes, say_number};
+use capture_walker::{Stepped, Walker, step_from};
+use line::Event;
 use room::lay;
 use std::io;
 use std::io::{Stdin, Stdout};
-use std::num::wrapping_add_u64;
 
 // One step of a walker made at a place. A walker is made and taken apart here alone, so that no other function has one in its locals.
 fn step_of_walker(block: &[u8], place: usize, body: &mut [u8; 255]) -> Stepped {
@@ -18,24 +18,10 @@ fn step_of_walker(block: &[u8], place: usize, body: &mut [u8; 255]) -> Stepped {
     }
 }
 
-fn say_next(next: Next, body: &[u8], out: Stdout) -> io::Result<()> {
-    match next {
-        Next::End => say_small(0, out),
-        Next::Event(event) => say_event(event, body, out),
-    }
-}
-
 // What a step answers, and the place behind it.
-fn say_stepped(stepped: Stepped, body: &[u8; 255], out: Stdout) -> io::Result<()> {
-    let all: &[u8] = body;
-    let next = stepped.next;
-    say_next(next, all, out)?;
-    say_number(stepped.place as u64, out)
-}
-
-fn say_lent(body: &[u8; 255], out: Stdout) -> io::Result<()> {
-    let all: &[u8] = body;
-    say_bytes(all, out)
+fn say_stepped(next: Option<Event>, behind: usize, body: &[u8], out: Stdout) -> io::Result<()> {
+    say_event(next, body, out)?;
+    say_number(behind as u64, out)
 }
 
 // Lent bytes and block, two bytes of how many are lent, eight of the place; the step's answer, and all 255 bytes as it leaves them.
@@ -44,25 +30,30 @@ pub(crate) fn step(text: &[u8], input: Stdin, out: Stdout) -> io::Result<()> {
     let place = take_number(input)? as usize;
     let mut body = [0u8; 255];
     lay(part(text, 0, end), &mut body, 0);
-    let stepped = step_of_walker(part(text, end, text.len()), place, &mut body);
-    say_stepped(stepped, &body, out)?;
-    say_lent(&body, out)
+    let Stepped {
+        next,
+        place: behind,
+    } = step_of_walker(part(text, end, text.len()), place, &mut body);
+    say_stepped(next, behind, &body, out)?;
+    say_bytes(&body, out)
 }
 
 // Walks on to the end and tells each event. How many there were is told behind them; the place at the end is answered.
 fn walk_to_end(block: &[u8], from: usize, body: &mut [u8; 255], out: Stdout) -> io::Result<usize> {
     let mut place = from;
-    let mut events = 0;
+    let mut events = 0u64;
     loop {
-        let stepped = capture_walker::step_from(block, place, body);
-        let next = stepped.next;
-        if let Next::End = next {
+        let Stepped {
+            next,
+            place: behind,
+        } = step_from(block, place, body);
+        if next.is_none() {
             say_number(events, out)?;
-            return Ok(stepped.place);
+            return Ok(behind);
         }
-        say_stepped(stepped, body, out)?;
-        place = stepped.place;
-        events = wrapping_add_u64(events, 1);
+        say_stepped(next, behind, body, out)?;
+        place = behind;
+        events = events.wrapping_add(1);
     }
 }
 
@@ -72,6 +63,9 @@ pub(crate) fn walk(text: &[u8], input: Stdin, out: Stdout) -> io::Result<()> {
     let mut body = [0u8; 255];
     let end = walk_to_end(text, from, &mut body, out)?;
     say_number(end as u64, out)?;
-    let again = capture_walker::step_from(text, end, &mut body);
-    say_stepped(again, &body, out)
+    let Stepped {
+        next,
+        place: behind,
+    } = step_from(text, end, &mut body);
+    say_stepped(next, behind, &body, out)
 }

@@ -3,16 +3,16 @@ use crate::given::{take_byte, take_reading};
 use crate::words::{
     say_bits, say_bytes, say_flag, say_good, say_number, say_reading, say_refusal, say_small,
 };
-use kilograms::Kilograms;
+use refusal::Refusal;
 use std::io;
 use std::io::{Stdin, Stdout};
-use terminal_mode::{Answer, ModeTold, Platform, mode_of};
-use weight::{FourBytes, Packed, Read, Value};
+use terminal_mode::{Mode, mode_of};
+use weight::{FourBytes, Reading};
 
-pub(crate) fn say_read(read: Read, out: Stdout) -> io::Result<()> {
+pub(crate) fn say_read(read: Result<Reading, Refusal>, out: Stdout) -> io::Result<()> {
     match read {
-        Read::Refused(why) => say_refusal(why, out),
-        Read::Good(reading) => {
+        Err(why) => say_refusal(why, out),
+        Ok(reading) => {
             say_good(out)?;
             say_reading(reading, out)
         }
@@ -42,8 +42,8 @@ pub(crate) fn in_range(input: Stdin, out: Stdout) -> io::Result<()> {
 // A reading; its four bytes and the number of its family.
 pub(crate) fn write(input: Stdin, out: Stdout) -> io::Result<()> {
     match weight::to_bytes(take_reading(input)?) {
-        Packed::Refused(why) => say_refusal(why, out),
-        Packed::Bytes(bytes) => {
+        Err(why) => say_refusal(why, out),
+        Ok(bytes) => {
             say_good(out)?;
             let four = [bytes.w0, bytes.w1, bytes.w2, bytes.con];
             say_bytes(&four, out)?;
@@ -61,10 +61,10 @@ fn say_float(float: f64, out: Stdout) -> io::Result<()> {
 }
 
 // A whole number as the float nearest to it. Below 2^53 that float is the number itself, and no other whole number has the same float.
-fn say_value(value: Value, out: Stdout) -> io::Result<()> {
+fn say_value(value: Result<i64, Refusal>, out: Stdout) -> io::Result<()> {
     match value {
-        Value::Refused(why) => say_refusal(why, out),
-        Value::Tenths(tenths) => {
+        Err(why) => say_refusal(why, out),
+        Ok(tenths) => {
             say_good(out)?;
             say_float(std::num::nearest_i64_to_f64(tenths), out)
         }
@@ -86,8 +86,8 @@ pub(crate) fn difference(input: Stdin, out: Stdout) -> io::Result<()> {
 // A reading; its kilograms.
 pub(crate) fn kilograms(input: Stdin, out: Stdout) -> io::Result<()> {
     match kilograms::kilograms_of(take_reading(input)?) {
-        Kilograms::Refused(why) => say_refusal(why, out),
-        Kilograms::Number(float) => {
+        Err(why) => say_refusal(why, out),
+        Ok(float) => {
             say_good(out)?;
             say_float(float, out)
         }
@@ -95,31 +95,34 @@ pub(crate) fn kilograms(input: Stdin, out: Stdout) -> io::Result<()> {
 }
 
 // 0 for a family that has no such bit, 1 for a bit that is clear, 2 for one that is set.
-fn say_answer(answer: Answer, out: Stdout) -> io::Result<()> {
+fn say_answer(answer: Option<bool>, out: Stdout) -> io::Result<()> {
     match answer {
-        Answer::NoSuchBit => say_small(0, out),
-        Answer::No => say_small(1, out),
-        Answer::Yes => say_small(2, out),
+        None => say_small(0, out),
+        Some(false) => say_small(1, out),
+        Some(true) => say_small(2, out),
     }
 }
 
 // 0 for a family that has no such bit, 1 for platform 0, 2 for platform 1.
-fn say_platform(platform: Platform, out: Stdout) -> io::Result<()> {
+fn say_platform(platform: Option<u8>, out: Stdout) -> io::Result<()> {
     match platform {
-        Platform::NoSuchBit => say_small(0, out),
-        Platform::Scale(number) => say_number(number as u64 + 1, out),
+        None => say_small(0, out),
+        Some(number) => say_number(number as u64 + 1, out),
     }
 }
 
 // A reading; net mode, platform, key code, event.
 pub(crate) fn mode(input: Stdin, out: Stdout) -> io::Result<()> {
     match mode_of(take_reading(input)?) {
-        ModeTold::Refused(why) => say_refusal(why, out),
-        ModeTold::Mode(mode) => {
-            let net = mode.net;
-            let platform = mode.platform;
-            let key = mode.key;
-            let event = mode.event;
+        Err(why) => say_refusal(why, out),
+        Ok(
+            Mode {
+                net,
+                platform,
+                key,
+                event,
+            },
+        ) => {
             say_good(out)?;
             say_answer(net, out)?;
             say_platform(platform, out)?;

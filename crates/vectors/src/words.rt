@@ -1,10 +1,9 @@
 // What an answer is made of: words, each behind a blank. A number is told in decimal, bytes in hex, no bytes as `-`.
 use body::Address;
-use refusal::{Refusal, Verdict, number};
-use room::Written;
+use refusal::Refusal;
 use std::io;
 use std::io::Stdout;
-use weight::{Reading, family_number};
+use weight::Reading;
 
 pub(crate) fn say_number(number: u64, out: Stdout) -> io::Result<()> {
     print!(out; " {number}")
@@ -18,25 +17,15 @@ pub(crate) fn say_flag(flag: bool, out: Stdout) -> io::Result<()> {
     say_number(flag as u64, out)
 }
 
-fn spell_byte(byte: u8, out: Stdout) -> io::Result<()> {
-    print!(out; "{byte:02x}")
-}
-
-fn spell(bytes: &[u8], out: Stdout) -> io::Result<()> {
-    let mut at = 0;
-    while at < bytes.len() {
-        spell_byte(bytes[at], out)?;
-        at += 1;
+pub(crate) fn say_bytes(bytes: &[u8], out: Stdout) -> io::Result<()> {
+    if bytes.is_empty() {
+        return print!(out; " -");
+    }
+    print!(out; " ")?;
+    for byte in bytes {
+        print!(out; "{byte:02x}")?;
     }
     Ok(())
-}
-
-pub(crate) fn say_bytes(bytes: &[u8], out: Stdout) -> io::Result<()> {
-    print!(out; " ")?;
-    if bytes.len() == 0 {
-        print!(out; "-")?;
-    }
-    spell(bytes, out)
 }
 
 // Sixty-four bits, in hex.
@@ -46,7 +35,7 @@ pub(crate) fn say_bits(bits: u64, out: Stdout) -> io::Result<()> {
 
 // The paper's number of a refusal. 0 stands for none.
 pub(crate) fn say_refusal(why: Refusal, out: Stdout) -> io::Result<()> {
-    say_small(number(why), out)
+    say_small(u8::from(why), out)
 }
 
 // How a refusal starts in an answer of three kinds: 0 for nothing, 1 for what was heard or read, 2 for a refusal.
@@ -59,18 +48,29 @@ pub(crate) fn say_good(out: Stdout) -> io::Result<()> {
     say_number(0, out)
 }
 
-pub(crate) fn say_verdict(verdict: Verdict, out: Stdout) -> io::Result<()> {
+pub(crate) fn say_verdict(verdict: Result<(), Refusal>, out: Stdout) -> io::Result<()> {
     match verdict {
-        Verdict::Good => say_good(out),
-        Verdict::Refused(why) => say_refusal(why, out),
+        Ok(()) => say_good(out),
+        Err(why) => say_refusal(why, out),
     }
 }
 
-// What a write answered, and its room as it is afterwards.
-pub(crate) fn say_written(written: Written, room: &[u8], out: Stdout) -> io::Result<()> {
-    let verdict = written.verdict;
-    say_verdict(verdict, out)?;
-    say_number(written.length as u64, out)?;
+// What a write answered, its length or the refusal and no length, and its room as it is afterwards.
+pub(crate) fn say_written(
+    written: Result<usize, Refusal>,
+    room: &[u8],
+    out: Stdout,
+) -> io::Result<()> {
+    match written {
+        Err(why) => {
+            say_refusal(why, out)?;
+            say_number(0, out)?;
+        }
+        Ok(length) => {
+            say_good(out)?;
+            say_number(length as u64, out)?;
+        }
+    }
     say_bytes(room, out)
 }
 
@@ -89,7 +89,6 @@ pub(crate) fn say_address(address: Address, out: Stdout) -> io::Result<()> {
 }
 
 pub(crate) fn say_reading(reading: Reading, out: Stdout) -> io::Result<()> {
-    let family = reading.family;
     say_flag(reading.minus, out)?;
     say_number(reading.number as u64, out)?;
     say_small(reading.point, out)?;
@@ -97,5 +96,5 @@ pub(crate) fn say_reading(reading: Reading, out: Stdout) -> io::Result<()> {
     say_flag(reading.bit5, out)?;
     say_flag(reading.settled, out)?;
     say_flag(reading.overload, out)?;
-    say_small(family_number(family), out)
+    say_small(u8::from(reading.family), out)
 }

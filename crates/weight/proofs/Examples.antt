@@ -1,5 +1,6 @@
 -- Shown: the readings and values of the judged examples E3 and E4, the largest value, a minus zero, an overloaded bridge, and what is refused.
 -- Why: each side computes to the same.
+use Rattle.std.specs.Prelude.{Ok, Err}
 use Prim.Native.Nat.{ℕ}
 use mathlib.Core.Path.{◌≡◌, refl}
 use mathlib.Core.Bool.{Bool, true, false}
@@ -11,9 +12,6 @@ use Rattle.weight.specs.declared.families.Family.{Family}
 use Rattle.weight.specs.declared.families.Family.TheVariants.{Plain, Of000, Of001, Of002}
 use Rattle.weight.specs.declared.FourBytes.{FourBytes}
 use Rattle.weight.specs.declared.Reading.{Reading}
-use Rattle.weight.specs.declared.Read.TheVariants.{Good, Refused as NotRead}
-use Rattle.weight.specs.declared.Packed.TheVariants.{Bytes, Refused as NotPacked}
-use Rattle.weight.specs.declared.Value.TheVariants.{Tenths, Refused}
 use Rattle.weight.specs.Families.{named_in, family_named}
 use Rattle.weight.specs.Bytes.{in_range, read_as, read_of, packed_of}
 use Rattle.weight.specs.Tenths.{value_of, difference_of}
@@ -30,11 +28,11 @@ e3_reading = shown false 251 1 false
 abbrev pub e3_bytes : FourBytes
 e3_bytes = record { w0 = 0x51; w1 = 0x02; w2 = 0x00; con = 0x01; family = 3 }
 
-pub e3_read : read_of e3_bytes ≡ Good e3_reading
+pub e3_read : read_of e3_bytes ≡ Ok e3_reading
 unfolding read_of read_as family_named named_in
 e3_read = refl
 
-pub e3_value : value_of e3_reading ≡ Tenths (pos 251000000)
+pub e3_value : value_of e3_reading ≡ Ok (pos 251000000)
 unfolding value_of in_range
 e3_value = refl
 
@@ -45,25 +43,25 @@ e4_reading = shown true 5 1 true
 abbrev pub e4_bytes : FourBytes
 e4_bytes = record { w0 = 0x05; w1 = 0x00; w2 = 0x00; con = 0x91; family = 3 }
 
-pub e4_read : read_of e4_bytes ≡ Good e4_reading
+pub e4_read : read_of e4_bytes ≡ Ok e4_reading
 unfolding read_of read_as family_named named_in
 e4_read = refl
 
-pub e4_value : value_of e4_reading ≡ Tenths (neg_ℤ (pos 5000000))
+pub e4_value : value_of e4_reading ≡ Ok (neg_ℤ (pos 5000000))
 unfolding value_of in_range
 e4_value = refl
 
 -- "Gross less net is a signed difference and may be negative."
-pub e3_less_e4 : difference_of e3_reading e4_reading ≡ Tenths (pos 256000000)
+pub e3_less_e4 : difference_of e3_reading e4_reading ≡ Ok (pos 256000000)
 unfolding difference_of value_of in_range
 e3_less_e4 = refl
 
-pub e4_less_e3 : difference_of e4_reading e3_reading ≡ Tenths (neg_ℤ (pos 256000000))
+pub e4_less_e3 : difference_of e4_reading e3_reading ≡ Ok (neg_ℤ (pos 256000000))
 unfolding difference_of value_of in_range
 e4_less_e3 = refl
 
 -- "The largest is 9,999,990,000,000."
-pub largest_value : value_of (shown false 999999 0 true) ≡ Tenths (pos 9999990000000)
+pub largest_value : value_of (shown false 999999 0 true) ≡ Ok (pos 9999990000000)
 unfolding value_of in_range
 largest_value = refl
 
@@ -71,11 +69,11 @@ largest_value = refl
 abbrev pub minus_zero : Reading
 minus_zero = shown true 0 0 true
 
-pub minus_zero_value : value_of minus_zero ≡ Tenths (pos 0)
+pub minus_zero_value : value_of minus_zero ≡ Ok (pos 0)
 unfolding value_of in_range
 minus_zero_value = refl
 
-pub minus_zero_bytes : packed_of minus_zero ≡ Bytes (record { w0 = 0x00; w1 = 0x00; w2 = 0x00; con = 0x90; family = 3 })
+pub minus_zero_bytes : packed_of minus_zero ≡ Ok (record { w0 = 0x00; w1 = 0x00; w2 = 0x00; con = 0x90; family = 3 })
 unfolding packed_of in_range
 minus_zero_bytes = refl
 
@@ -84,19 +82,19 @@ minus_zero_bytes = refl
 pub outside_is_8 : number_of FieldOutside ≡ 8
 outside_is_8 = refl
 
-pub half_of_ten : read_of (record { w0 = 0x0A; w1 = 0x00; w2 = 0x00; con = 0x00; family = 3 }) ≡ NotRead FieldOutside
+pub half_of_ten : read_of (record { w0 = 0x0A; w1 = 0x00; w2 = 0x00; con = 0x00; family = 3 }) ≡ Err FieldOutside
 unfolding read_of read_as family_named named_in
 half_of_ten = refl
 
-pub seven_digits : packed_of (shown false 1000000 0 true) ≡ NotPacked FieldOutside
+pub seven_digits : packed_of (shown false 1000000 0 true) ≡ Err FieldOutside
 unfolding packed_of in_range
 seven_digits = refl
 
-pub point_of_8 : value_of (shown false 0 8 true) ≡ Refused FieldOutside
+pub point_of_8 : value_of (shown false 0 8 true) ≡ Err FieldOutside
 unfolding value_of in_range
 point_of_8 = refl
 
-pub net_outside : difference_of e3_reading (shown false 0 8 true) ≡ Refused FieldOutside
+pub net_outside : difference_of e3_reading (shown false 0 8 true) ≡ Err FieldOutside
 unfolding difference_of in_range
 net_outside = refl
 
@@ -112,31 +110,31 @@ overloaded_is_24 = refl
 -- 60 tonnes, and nothing at all; and a number out of its range
 pub overloaded_values :
     map value_of (overloaded 60000 0 ∷ overloaded 0 0 ∷ overloaded 1000000 0 ∷ overloaded 0 8 ∷ [])
-    ≡ Refused Overloaded ∷ Refused Overloaded ∷ Refused FieldOutside ∷ Refused FieldOutside ∷ []
+    ≡ Err Overloaded ∷ Err Overloaded ∷ Err FieldOutside ∷ Err FieldOutside ∷ []
 unfolding value_of in_range
 overloaded_values = refl
 
 -- 8 of either reading, then 24 of either
 pub overloaded_differences :
     map (difference_of (overloaded 60000 0)) (e3_reading ∷ overloaded 1 0 ∷ shown false 0 8 true ∷ [])
-    ≡ Refused Overloaded ∷ Refused Overloaded ∷ Refused FieldOutside ∷ []
+    ≡ Err Overloaded ∷ Err Overloaded ∷ Err FieldOutside ∷ []
 unfolding difference_of value_of in_range
 overloaded_differences = refl
 
 pub less_overloaded :
     map (λ (gross : Reading). difference_of gross (overloaded 60000 0)) (e3_reading ∷ shown false 0 8 true ∷ [])
-    ≡ Refused Overloaded ∷ Refused FieldOutside ∷ []
+    ≡ Err Overloaded ∷ Err FieldOutside ∷ []
 unfolding difference_of value_of in_range
 less_overloaded = refl
 
 abbrev overloaded_bytes : FourBytes
 overloaded_bytes = record { w0 = 0x00; w1 = 0x00; w2 = 0x06; con = 0x18; family = 3 }
 
-pub overloaded_read : read_of overloaded_bytes ≡ Good (overloaded 60000 0)
+pub overloaded_read : read_of overloaded_bytes ≡ Ok (overloaded 60000 0)
 unfolding read_of read_as family_named named_in
 overloaded_read = refl
 
-pub overloaded_packed : packed_of (overloaded 60000 0) ≡ Bytes overloaded_bytes
+pub overloaded_packed : packed_of (overloaded 60000 0) ≡ Ok overloaded_bytes
 unfolding packed_of in_range
 overloaded_packed = refl
 
@@ -151,12 +149,12 @@ with_both family =
 
 pub read_by_family :
     map read_of (both_set 0 ∷ both_set 1 ∷ both_set 2 ∷ both_set 3 ∷ both_set 4 ∷ both_set 255 ∷ [])
-    ≡ Good (with_both Plain) ∷ Good (with_both Of000) ∷ Good (with_both Of001) ∷ NotRead FieldOutside ∷ NotRead FieldOutside ∷ NotRead FieldOutside ∷ []
+    ≡ Ok (with_both Plain) ∷ Ok (with_both Of000) ∷ Ok (with_both Of001) ∷ Err FieldOutside ∷ Err FieldOutside ∷ Err FieldOutside ∷ []
 unfolding read_of read_as family_named named_in
 read_by_family = refl
 
 pub packed_by_family :
     map packed_of (with_both Plain ∷ with_both Of000 ∷ with_both Of001 ∷ with_both Of002 ∷ [])
-    ≡ Bytes (both_set 0) ∷ Bytes (both_set 1) ∷ Bytes (both_set 2) ∷ NotPacked FieldOutside ∷ []
+    ≡ Ok (both_set 0) ∷ Ok (both_set 1) ∷ Ok (both_set 2) ∷ Err FieldOutside ∷ []
 unfolding packed_of in_range
 packed_by_family = refl

@@ -1,6 +1,6 @@
 pub mod FamilyNumbers
-pub mod Steps
 pub mod Sizes
+pub mod Steps
 pub mod Values
 pub mod Pairs
 pub mod Marks

@@ -1,11 +1,9 @@
 -- 02, request 4: "A reading now carries its terminal family: 000 (bit 6 key code entered, bit 5 net mode), 001 (bit 6 event, bit 5 current scale
 -- number), 002 (bit 6 reserved and must be 0, bit 5 net mode)." "Log records use byte 17 for the family, 1 to 3 for 000 to 002; 0 is an old record
 -- whose bits stay plain."
-use Rattle.std.specs.Prelude.{ℕ, Bool, true, cond, not, List, [], ◌∷◌, eqb}
+use Rattle.std.specs.Prelude.{ℕ, Bool, true, cond, not, List, [], ◌∷◌, eqb, Option, Some, None}
 use Rattle.weight.specs.declared.families.Family.{Family}
 use Rattle.weight.specs.declared.families.Family.TheVariants.{Plain, Of000, Of001, Of002}
-use Rattle.weight.specs.declared.families.FamilyNamed.{FamilyNamed}
-use Rattle.weight.specs.declared.families.FamilyNamed.TheVariants as named_as
 
 -- what a bit of the status byte is called
 pub data Called : Type 0 where
@@ -32,11 +30,11 @@ abbrev pub families : List Family
 families = Plain ∷ Of000 ∷ Of001 ∷ Of002 ∷ []
 
 -- the family with a number
-unfoldable pub named_in : List Family → ℕ → FamilyNamed
-named_in [] number = named_as.Unknown
-named_in (family ∷ more) number = cond (eqb number (family_number family)) (named_as.Family family) (named_in more number)
+unfoldable pub named_in : List Family → ℕ → Option Family
+named_in [] number = None
+named_in (family ∷ more) number = cond (eqb number (family_number family)) (Some family) (named_in more number)
 
-unfoldable pub family_named : ℕ → FamilyNamed
+unfoldable pub family_named : ℕ → Option Family
 family_named number = named_in families number
 
 -- "reserved and must be 0"; any other bit may be set

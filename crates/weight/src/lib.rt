@@ -2,23 +2,22 @@
 
 #![tactic(auto)]
 
-ghost use Rattle.std.specs.Prelude.{◌≡◌, ◌&&◌, cond, ◌*◌, ◌^◌, ◌-◌, ◌≤◌, ◌<◌};
+ghost use Rattle.std.specs.Prelude.{◌≡◌, ◌&&◌, cond, ◌*◌, ◌^◌, ◌-◌, ◌≤◌, ◌<◌, IfOk};
+ghost use Rattle.refusal.specs.declared.Refusal.TheVariants.{FieldOutside};
 ghost use Rattle.weight.specs.Digits.{decimal, all_decimal, two_digits, pair_of};
 ghost use Rattle.weight.specs.Families.{terminal, allowed};
 ghost use Rattle.weight.specs.Status.{on_at, status_of};
 ghost use Rattle.weight.specs.Bytes.{in_range, read_as, read_of, packed_of};
 ghost use Rattle.weight.specs.Tenths.{signed, value_of, difference_of};
-ghost use Rattle.weight.specs.declared.Value.TheVariants.{Refused};
-ghost use Rattle.refusal.specs.declared.Refusal.TheVariants.{FieldOutside, Overloaded};
 
 use refusal::Refusal;
 
 mod families;
 
-pub use families::{Family, FamilyNamed, family_named, family_number};
+pub use families::Family;
 
 // What a terminal shows: the digits as one number, where the point stands in them, and the marks of the status byte; and whose it is.
-#[derive(Clone, Copy)]
+#[derive(Clone, Copy, Debug, PartialEq, Eq)]
 pub struct Reading {
     pub minus: bool, // the sign bit, also of a zero
     pub number: u32, // 0 to 999,999
@@ -33,34 +32,13 @@ pub struct Reading {
 // The four bytes of a weight, as the wire and the log have them and as they cross to another language: W0 W1 W2 CON. Beside them stands the number
 // of the family by which they are read, as byte 17 of a record has it.
 #[repr(C)]
-#[derive(Clone, Copy)]
+#[derive(Clone, Copy, Debug, PartialEq, Eq)]
 pub struct FourBytes {
     pub w0: u8,
     pub w1: u8,
     pub w2: u8,
     pub con: u8,
     pub family: u8,
-}
-
-// What four bytes are read as.
-#[derive(Clone, Copy)]
-pub enum Read {
-    Good(Reading),
-    Refused(Refusal),
-}
-
-// What a reading is written as. A refusal has no bytes, so it cannot pass for a weight of nothing.
-#[derive(Clone, Copy)]
-pub enum Packed {
-    Bytes(FourBytes),
-    Refused(Refusal),
-}
-
-// A signed whole number of tenths of a milligram, or why there is none.
-#[derive(Clone, Copy)]
-pub enum Value {
-    Tenths(i64),
-    Refused(Refusal),
 }
 
 // The places of the status byte: the weight of each mark, and the values of the point.
@@ -76,30 +54,27 @@ const OVERLOAD: u8 = 8;
 
 const POINTS: u8 = 8;
 
-const LARGEST_NUMBER: u32 = 999999;
+const LARGEST_NUMBER: u32 = 999_999;
 
 const LARGEST_POINT: u8 = 7;
-
-// Tenths of a milligram in the last digit, for each point.
-const STEPS: [u64; 8] = [10000000, 1000000, 100000, 10000, 1000, 100, 10, 1];
 
 fn is_decimal(byte: u8) -> bool
     ensures { result ≡ decimal byte }
 {
-    (byte / 16 <= 9) & (byte % 16 <= 9)
+    byte / 16 <= 9 && byte % 16 <= 9
 }
 
 fn are_decimal(w0: u8, w1: u8, w2: u8) -> bool
     ensures { result ≡ all_decimal w0 w1 w2 }
 {
-    is_decimal(w0) & is_decimal(w1) & is_decimal(w2)
+    is_decimal(w0) && is_decimal(w1) && is_decimal(w2)
 }
 
 // The two digits of a packed byte, high half first.
 fn two_digits(byte: u8) -> u32
     ensures { result ≡ two_digits byte }
 {
-    (byte / 16) as u32 * 10 + (byte % 16) as u32
+    u32::from(byte / 16) * 10 + u32::from(byte % 16)
 }
 
 // The last two digits of a number as a packed byte.
@@ -130,19 +105,13 @@ fn is_allowed(family: Family, bit6: bool) -> bool
 }
 
 // Whether the number, the point and bit 6 have values that a reading may have. This is asked wherever a reading is used.
+#[tactic(auto, unfolding(crate::specs::Bytes::in_range))]
 pub fn in_range(reading: Reading) -> bool
     ensures { result ≡ in_range reading }
 {
-    let family = reading.family;
-    let allowed = is_allowed(family, reading.bit6);
-    (reading.number <= LARGEST_NUMBER) & (reading.point <= LARGEST_POINT) & allowed
-}
-
-// Refusal 8 of either reading comes before 24 of either.
-fn both_in_range(gross: Reading, net: Reading) -> bool
-    ensures { result ≡ (in_range gross && in_range net) }
-{
-    in_range(gross) & in_range(net)
+    reading.number <= LARGEST_NUMBER
+        && reading.point <= LARGEST_POINT
+        && is_allowed(reading.family, reading.bit6)
 }
 
 // The status byte: the places of the marks that are set, and the point below them.
@@ -156,28 +125,29 @@ fn status(reading: Reading) -> u8
     sign + by_family + state + reading.point
 }
 
-// Tenths of a milligram in the last digit of a reading.
+// Tenths of a milligram in the last digit, for each point. It stays a table: by the library's `pow`, filling the hour table took 1.39 times what C
+// takes, and 1.3 is the bar (docs/PERFORMANCE.md).
+const STEPS: [u64; 8] = [10_000_000, 1_000_000, 100_000, 10_000, 1_000, 100, 10, 1];
+
+#[tactic(auto, using(crate::proofs::Steps::step_at))]
 fn step(point: u8) -> u64
     requires { point ≤ 7 }
     ensures { result ≡ 10 ^ (7 - point) }
 {
-    STEPS[point as usize]
+    STEPS[usize::from(point)]
 }
 
-// The number is widened before it is multiplied, because the product passes 32 bits.
-fn widened(number: u32) -> u64
-    ensures { result ≡ number }
+// The digits in tenths of a milligram, without the sign, or 8. The largest is 9,999,990,000,000. The number is widened before it is multiplied,
+// because the product passes 32 bits.
+#[tactic(auto, using(crate::proofs::Sizes::size_le, crate::proofs::Sizes::legal_number, crate::proofs::Sizes::legal_point))]
+fn size_of(reading: Reading) -> Result<u64, Refusal>
+    ensures value { result ≡ cond (in_range reading) (Ok (reading.number * 10 ^ (7 - reading.point))) (Err FieldOutside) }
+    ensures small { IfOk result (λ size. size ≤ 9999990000000) }
 {
-    number as u64
-}
-
-// The digits in tenths of a milligram, without the sign. The largest is 9,999,990,000,000.
-fn size_of(number: u32, point: u8) -> u64
-    requires { (number ≤ 999999) × (point ≤ 7) }
-    ensures value { result ≡ number * 10 ^ (7 - point) }
-    ensures small { result ≤ 9999990000000 }
-{
-    widened(number) * step(point)
+    if !in_range(reading) {
+        return Err(Refusal::FieldOutside);
+    }
+    Ok(u64::from(reading.number) * step(reading.point))
 }
 
 // A size with its sign; minus zero is 0.
@@ -185,105 +155,84 @@ fn with_sign(minus: bool, size: u64) -> i64
     requires { size < 2 ^ 63 }
     ensures { result ≡ signed minus size }
 {
-    let tenths = size as i64;
+    let tenths = size.cast_signed();
     if minus { -tenths } else { tenths }
 }
 
-// Reads four bytes of a terminal of a family.
-fn read_as(family: Family, bytes: FourBytes) -> Read
+// Reads four bytes of a terminal of a family. A mark is `con / PLACE % 2`, the digit that the definition reads: `con & PLACE` was tried, and leaves
+// open what a lemma of masks would have to say.
+#[tactic(auto, unfolding(crate::specs::Bytes::read_as))]
+fn read_as(family: Family, bytes: FourBytes) -> Result<Reading, Refusal>
     ensures { result ≡ read_as family bytes }
 {
     let con = bytes.con;
     let bit6 = con / BIT6 % 2 == 1;
-    if are_decimal(bytes.w0, bytes.w1, bytes.w2) & is_allowed(family, bit6) {
-        let number = two_digits(bytes.w2) * 10000
-            + two_digits(bytes.w1) * 100
-            + two_digits(bytes.w0);
-        Read::Good(Reading {
-            minus: con / MINUS % 2 == 1,
-            number,
-            point: con % POINTS,
-            bit6,
-            bit5: con / BIT5 % 2 == 1,
-            settled: con / SETTLED % 2 == 1,
-            overload: con / OVERLOAD % 2 == 1,
-            family,
-        })
-    } else {
-        Read::Refused(Refusal::FieldOutside)
+    if !(are_decimal(bytes.w0, bytes.w1, bytes.w2) && is_allowed(family, bit6)) {
+        return Err(Refusal::FieldOutside);
     }
+    let number = two_digits(bytes.w2) * 10000 + two_digits(bytes.w1) * 100 + two_digits(bytes.w0);
+    Ok(Reading {
+        minus: con / MINUS % 2 == 1,
+        number,
+        point: con % POINTS,
+        bit6,
+        bit5: con / BIT5 % 2 == 1,
+        settled: con / SETTLED % 2 == 1,
+        overload: con / OVERLOAD % 2 == 1,
+        family,
+    })
 }
 
 // Reads four bytes by the family whose number stands beside them. A number that names no family is refused by 8.
-pub fn read_bytes(bytes: FourBytes) -> Read
+#[tactic(auto, unfolding(crate::specs::Bytes::read_of))]
+pub fn read_bytes(bytes: FourBytes) -> Result<Reading, Refusal>
     ensures { result ≡ read_of bytes }
 {
-    match family_named(bytes.family) {
-        FamilyNamed::Family(family) => read_as(family, bytes),
-        FamilyNamed::Unknown => Read::Refused(Refusal::FieldOutside),
-    }
+    let family = Family::try_from(bytes.family)?;
+    read_as(family, bytes)
 }
 
 // A reading to its four bytes.
-pub fn to_bytes(reading: Reading) -> Packed
+#[tactic(auto, unfolding(crate::specs::Bytes::packed_of), using(crate::proofs::Sizes::legal_point))]
+pub fn to_bytes(reading: Reading) -> Result<FourBytes, Refusal>
     ensures { result ≡ packed_of reading }
 {
-    if in_range(reading) {
-        let number = reading.number;
-        let family = reading.family;
-        Packed::Bytes(FourBytes {
-            w0: pair(number),
-            w1: pair(number / 100),
-            w2: pair(number / 10000),
-            con: status(reading),
-            family: family_number(family),
-        })
-    } else {
-        Packed::Refused(Refusal::FieldOutside)
+    if !in_range(reading) {
+        return Err(Refusal::FieldOutside);
     }
-}
-
-// What stands instead of a value: 24 of a reading within its ranges, and 8 of any other.
-fn no_value(within: bool) -> Value
-    ensures { result ≡ cond within (Refused Overloaded) (Refused FieldOutside) }
-{
-    if within {
-        Value::Refused(Refusal::Overloaded)
-    } else {
-        Value::Refused(Refusal::FieldOutside)
-    }
+    let number = reading.number;
+    Ok(FourBytes {
+        w0: pair(number),
+        w1: pair(number / 100),
+        w2: pair(number / 10000),
+        con: status(reading),
+        family: u8::from(reading.family),
+    })
 }
 
 // The value of a reading, or 8, and then 24: an overloaded bridge has no weight (02, request 7). Every user of a reading's value goes
 // through here.
-pub fn value_of(reading: Reading) -> Value
+#[tactic(auto, unfolding(crate::specs::Tenths::value_of))]
+pub fn value_of(reading: Reading) -> Result<i64, Refusal>
     ensures { result ≡ value_of reading }
 {
-    let within = in_range(reading);
-    if within & !reading.overload {
-        let size = size_of(reading.number, reading.point);
-        return Value::Tenths(with_sign(reading.minus, size));
+    let size = size_of(reading)?;
+    if reading.overload {
+        return Err(Refusal::Overloaded);
     }
-    no_value(within)
+    Ok(with_sign(reading.minus, size))
 }
 
-// Gross less net, which may be negative; or 8 of either reading, and then 24 of either. A reading does not know whether it is gross or net, so
-// this is not asked.
-pub fn gross_less_net(gross: Reading, net: Reading) -> Value
+// Gross less net, which may be negative; or 8 of either reading, and then 24 of either. So 8 of the net comes before 24 of the gross. A reading
+// does not know whether it is gross or net, so this is not asked.
+#[tactic(auto, unfolding(crate::specs::Tenths::difference_of), using(crate::proofs::Values::difference_fits, crate::proofs::Values::difference_made))]
+pub fn gross_less_net(gross: Reading, net: Reading) -> Result<i64, Refusal>
     ensures { result ≡ difference_of gross net }
 {
-    if both_in_range(gross, net) {
-        match value_of(gross) {
-            Value::Tenths(gross_tenths) => match value_of(net) {
-                Value::Tenths(net_tenths) => {
-                    let difference = gross_tenths - net_tenths;
-                    Value::Tenths(difference)
-                }
-                Value::Refused(why) => Value::Refused(why),
-            },
-            Value::Refused(why) => Value::Refused(why),
-        }
-    } else {
-        Value::Refused(Refusal::FieldOutside)
+    if !(in_range(gross) && in_range(net)) {
+        return Err(Refusal::FieldOutside);
     }
+    let gross_tenths = value_of(gross)?;
+    let net_tenths = value_of(net)?;
+    Ok(gross_tenths - net_tenths)
 }

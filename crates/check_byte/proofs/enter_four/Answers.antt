@@ -6,9 +6,7 @@ use Rattle.check_byte.proofs.Folding.{into_32, same_in_32}
 use Rattle.check_byte.proofs.enter_four.Goals as goal
 
 pub overflow_cast-result : goal.overflow_cast-result
-overflow_cast-result c =
-    let start = c.args in
-    record { fits = rw (c.fold_32-2.ensures, c.fold_32.ensures) (into_32 (start.wide * 4294967296 + start.four) (search rules)) }
+overflow_cast-result c = record { fits = rw (c.fold_32-2.ensures, c.fold_32.ensures, c.from.ensures, c.from-2.ensures) (into_32 (c.args.wide * 4294967296 + c.args.four) (search rules)) }
 
 pub returns : goal.returns
-returns c = rw (c.fold_32-2.ensures, c.fold_32.ensures) (same_in_32 _ (search rules))
+returns c = rw (c.fold_32-2.ensures, c.fold_32.ensures, c.from.ensures, c.from-2.ensures) (same_in_32 (c.args.wide * 4294967296 + c.args.four) (search rules))

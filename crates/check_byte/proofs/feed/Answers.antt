@@ -16,4 +16,5 @@ high_half = 0x00 ∷ 0x8F ∷ 0x77 ∷ 0xF8 ∷ 0xEE ∷ 0x61 ∷ 0x99 ∷ 0x16 
 
 pub returns : goal.returns
 unfolding feed_byte feed_bits shift_in
-returns c = by_halves low_half high_half tt tt c.args.register c.args.byte (search rules) (search rules)
+returns c =
+    rw (c.from-low.ensures, c.from-high.ensures) (by_halves low_half high_half tt tt c.args.register c.args.byte (search rules) (search rules))

@@ -1,60 +1,51 @@
 -- `hour_mean::mean_of` meets its contract: 31, no readings, or the sum over the count in lowest terms.
--- Why: the tests are the definition's, and the two numbers of the fraction fit 64 bits with their sign.
-use mathlib.Core.Path.{◌∙◌, sym}
-use native.Mathlib.Omega.{arith}
+-- Why: the tests are the definition's, and both are divided by what is common to them.
+use Rattle.std.proofs.Common.{◌≡◌, ◌^◌, ◌<◌, ◌∙◌, rules}
+use borrow.Author.Tests.{ne_eqb}
 use mir.Syntax.{w64}
 use mir.Val.{SFits}
 use mir.ValLaws.{to_z-of_z}
-use borrow.Author.Rules.{rules}
-use borrow.Author.Tests.{eq-eqb}
-use Rattle.low_first.proofs.SignedWords.{negated_fits}
-use Rattle.hour_mean.specs.Means.{mean_of}
-use Rattle.hour_mean.proofs.Parts.{Known, shared_positive, upper_small, lower_small, down_mean, up_mean}
+use lib.IntN.{nat_abs}
+use Rattle.hour_mean.specs.Means.{greatest_common, mean_of, lowest}
+use Rattle.hour_mean.proofs.Parts.{small, fits, told, quotient_is}
 use Rattle.hour_mean.proofs.mean_of.Goals as goal
 use Rattle.hour_mean.proofs.mean_of.Goals.{After-common-shared}
 
-pub returns-then-not-is_sound : goal.returns-then-not-is_sound
-unfolding mean_of
-returns-then-not-is_sound c = rw (sym c.is_sound.ensures ∙ c.if-not-is_sound.true)
+sum_fits : (c : After-common-shared) → SFits w64 c.args.cell.sum
+sum_fits c = search rules
 
-pub returns-then-cell-eq0 : goal.returns-then-cell-eq0
-unfolding mean_of
-returns-then-cell-eq0 c =
-    rw (sym c.is_sound.ensures ∙ c.if-not-is_sound.false, eq-eqb _ _ c.if-cell-eq0.true)
+shared_is : (c : After-common-shared) → c.common-shared.result ≡ greatest_common (nat_abs c.args.cell.sum) c.args.cell.weights
+shared_is c = c.common-shared.ensures ∙ rw (c.size_of.ensures, c.from.ensures, to_z-of_z w64 c.args.cell.sum (sum_fits c))
 
--- what the code knows where it has the common divisor
-known :
-    (c : After-common-shared) →
-    Known c.args.cell c.size_of-size.result c.common-shared.result
-known c =
-    let sum_fits : SFits w64 c.args.cell.sum = search rules in
-    record {
-      good = sym c.is_sound.ensures ∙ c.if-not-is_sound.false;
-      few = omega arith;
-      some = c.if-cell-eq0.false;
-      held = sum_fits;
-      is_size = rw (c.size_of-size.ensures, to_z-of_z w64 c.args.cell.sum sum_fits);
-      is_shared = c.common-shared.ensures;
-    }
+shared_small : (c : After-common-shared) → c.common-shared.result < 2 ^ 63
+shared_small c = small c.args.cell.weights _ _ (search rules) c.if-cell-eq0.false (shared_is c)
 
-pub nonzero_div-upper : goal.nonzero_div-upper
-nonzero_div-upper c = shared_positive _ _ _ (known c)
+pub overflow_cast-shared : goal.overflow_cast-shared
+overflow_cast-shared c = record { sfits = shared_small c }
 
-pub overflow_cast-upper : goal.overflow_cast-upper
-overflow_cast-upper c = record { sfits = upper_small _ _ _ (known c) }
+pub nonzero_div-mean : goal.nonzero_div-mean
+nonzero_div-mean c =
+    let at = (goal.at.nonzero_div-mean c).After-common-shared in
+    fits c.args.cell.weights _ _ (search rules) c.if-cell-eq0.false (shared_is at) _ (sum_fits at)
 
-pub nonzero_div-lower : goal.nonzero_div-lower
-nonzero_div-lower c = shared_positive _ _ _ (known c)
-
-pub overflow_cast-lower : goal.overflow_cast-lower
-overflow_cast-lower c = record { sfits = lower_small _ _ _ (known c) }
-
-pub overflow_sub-upper : goal.overflow_sub-upper
-overflow_sub-upper c =
-    let k = known (goal.at.overflow_sub-upper c).After-common-shared in search (negated_fits w64 _ (upper_small _ _ _ k))
-
-pub returns-then-cell-lt0 : goal.returns-then-cell-lt0
-returns-then-cell-lt0 c = c.over.ensures ∙ down_mean _ _ _ (known (goal.at.returns-then-cell-lt0 c).After-common-shared) c.if-cell-lt0.true
+pub nonzero_div-mean-2 : goal.nonzero_div-mean-2
+nonzero_div-mean-2 c =
+    let at = (goal.at.nonzero_div-mean-2 c).After-common-shared in
+    fits c.args.cell.weights _ _ (search rules) c.if-cell-eq0.false (shared_is at) c.from-2.result (search rules)
 
 pub returns : goal.returns
-returns c = c.over-2.ensures ∙ up_mean _ _ _ (known (goal.at.returns c).After-common-shared) c.if-cell-lt0.false
+unfolding mean_of lowest
+returns c =
+    let given = c.args.cell in
+    let at = (goal.at.returns c).After-common-shared in
+    let over = told given.weights _ _ (search rules) c.if-cell-eq0.false (shared_is at) in
+    rw (
+      over given.sum (sum_fits at),
+      over c.from-2.result (search rules),
+      c.from-2.ensures,
+      quotient_is given.sum c.common-shared.result,
+      shared_is at,
+      ← c.is_sound.ensures,
+      c.if-not-is_sound.false,
+      ne_eqb _ _ c.if-cell-eq0.false,
+    )

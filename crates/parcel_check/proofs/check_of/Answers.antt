@@ -1,40 +1,49 @@
 -- `parcel_check::check_of` meets its contract: the check of a body.
 -- Why: what the bytes not yet fed make of the register that the wide number stands for is what the whole body makes of an empty one.
-use Prim.Native.Nat.{ℕ, ◌+◌, ◌*◌, ◌≤◌, ◌<◌}
-use mathlib.Core.Path.{◌≡◌, ◌∙◌, ap}
-use mathlib.Core.List.{[], ◌∷◌}
-use native.Mathlib.Omega.{arith}
-use lib.Bits.{bit_xor, xor_lt}
-use lib.ListN.{length, drop, get_or, drop_of_length-le}
-use Rattle.low_first.specs.LowFirst.{low_first}
+use Rattle.std.proofs.Common.{ℕ, ◌∙◌, sym, ◌≤◌, ◌<◌, ◌+◌, ◌*◌, ◌/◌, ◌%◌, ap, arith, length, take, drop, get_or, length-drop}
+use Rattle.std.proofs.lemmas.List.{take-append-drop, get_or-drop}
+use lib.Bits.{xor_lt}
+use lib.ListN.{drop_of_length-le}
 use Rattle.register.specs.Register.{all_in}
-use Rattle.register.proofs.Slices.{four_in_lem}
+use Rattle.register.proofs.Laws.{all_append}
+use Rattle.register.proofs.Slices.{four_in}
 use Rattle.parcel_check.specs.Check.{enter_byte, parcel_check}
 use Rattle.parcel_check.proofs.Folding.{four_behind}
 use Rattle.parcel_check.proofs.Laws.{stands_for, byte_behind}
 use Rattle.parcel_check.proofs.check_of.Goals as goal
 
--- four bytes, the first on top, are the word of the last first
-four_is : (first second third fourth : ℕ) → low_first (fourth ∷ third ∷ second ∷ first ∷ []) ≡ ((first * 256 + second) * 256 + third) * 256 + fourth
-unfolding low_first
-four_is first second third fourth = omega arith
-
-pub loop-i-preserved : goal.loop-i-preserved
-loop-i-preserved c =
-    let folded = c.below_32 in
+pub loop-four-init : goal.loop-four-init
+unfolding parcel_check
+loop-four-init c =
     let body = c.args.body.now in
-    let each : (i : ℕ) → get_or body i 0 < 256 = λ i. (c.type_inv.body i).fits in
-    let fed : all_in enter_byte (stands_for (bit_xor folded.result c.word.result)) (drop (c.loop-i.i + 4) body) ≡ parcel_check body =
-    ap (λ (n : ℕ). all_in enter_byte n (drop (c.loop-i.i + 4) body))
-    (four_behind c.loop-i.wide c.word.result folded.result (omega arith) folded.ensures
-    ∙ ap (λ (n : ℕ). stands_for (c.loop-i.wide * 4294967296 + n))
-    (c.word.ensures ∙ four_is (get_or body c.loop-i.i 0) (get_or body (c.loop-i.i + 1) 0) (get_or body (c.loop-i.i + 2) 0) (get_or body (c.loop-i.i + 3) 0)))
-    ∙ four_in_lem enter_byte stands_for byte_behind body each c.loop-i.wide c.loop-i.i c.loop-i.invariant.0 (omega arith)
-    ∙ c.loop-i.invariant.3 in
-    (xor_lt 32 folded.result c.word.result (omega arith) (omega arith), omega arith, omega arith, fed)
+    let odd = length body % 4 in (
+      omega arith,
+      ap (λ (n : ℕ). all_in enter_byte n (drop odd body)) (c.number_of-wide.ensures ∙ ap (all_in enter_byte 0) c.as_rchunks.ensures.front)
+          ∙ sym (all_append enter_byte 0 (take odd body) (drop odd body))
+          ∙ ap (all_in enter_byte 0) (take-append-drop odd body),
+    )
+
+pub loop-four-preserved : goal.loop-four-preserved
+loop-four-preserved c =
+    let body = c.args.body.now in
+    let odd = length body % 4 in
+    let rest = drop odd body in
+    let each : (i : ℕ) → get_or rest i 0 < 256 = λ i. rw (get_or-drop odd body i 0) (c.type_inv.body (odd + i)).fits in
+    let size = length-drop odd body in
+    let at = c.loop-four in
+    let folded = c.below_32 in
+    let four = c.from_be_bytes.result in (
+      xor_lt 32 folded.result four (omega arith) (omega arith),
+      ap (λ (n : ℕ). all_in enter_byte n (drop (4 * (at.four-index + 1)) rest)) (four_behind at.wide four folded.result (omega arith) folded.ensures)
+          ∙ four_in enter_byte stands_for byte_behind rest each (length body / 4) at.wide at.four-index four at.invariant.0 (omega arith) (omega arith)
+          (rw (← c.as_rchunks.ensures.back) c.from_be_bytes.ensures)
+          ∙ at.invariant.1,
+    )
 
 pub returns : goal.returns
 returns c =
     let body = c.args.body.now in
-    let none : length body ≤ c.loop-i.i = omega arith in
-    c.register_of.ensures ∙ rw (drop_of_length-le body none) at c.loop-i.invariant.3
+    let rest = drop (length body % 4) body in
+    let size = length-drop (length body % 4) body in
+    let none : length rest ≤ 4 * c.loop-four.four-index = omega arith in
+    c.register_of.ensures ∙ rw (drop_of_length-le rest none) at c.loop-four.invariant.1

@@ -1,15 +1,13 @@
 -- `frame::prepare` meets its contract: 5, then 2, then the body made ready and its room counted.
 -- Why: each return is one of the three answers, and the FF bytes are counted in exactly what was assembled.
-use Rattle.std.proofs.Common.{ℕ, ◌≡◌, ◌∙◌, ◌≤◌, ◌+◌, ◌-◌, List, length, take, sym, ap, arith}
-use native.Mathlib.Nat.{sub-zero}
-use lib.ListN.{length-take}
+use Rattle.std.proofs.Common.{ℕ, ◌≡◌, ◌∙◌, ◌≤◌, ◌+◌, List, length, sym, arith}
 use Rattle.body.specs.declared.addresses.Address.{Address}
 use Rattle.body.specs.Addresses.{address_length}
 use Rattle.body.specs.Body.{body_of}
 use Rattle.body.proofs.Anatomy.{body_length as size}
-use Rattle.room.proofs.Over.{laid_end, laid_front}
-use Rattle.frame.specs.Stuffing.{count_ff}
+use Rattle.room.proofs.Over.{laid_front}
 use Rattle.frame.proofs.Ready.{illegal_prepared, long_prepared, ready_prepared}
+use Rattle.frame.proofs.Stuffing.{counted_ff}
 use Rattle.frame.proofs.writing.prepare.Goals as goal
 
 -- behind the second test the body has at most 255 bytes
@@ -27,24 +25,16 @@ returns-then-body_length-gt-LONGEST_BODY c =
     (rw (size start.address start.code start.«data».now, ← c.body_length.ensures) c.if-body_length-gt-LONGEST_BODY.true)
 
 pub assemble-end-requires : goal.assemble-end-requires
-assemble-end-requires c =
-    omega (arith, c.requires, fits c.args.address c.args.code c.args.«data».now c.body_length.ensures c.if-body_length-gt-LONGEST_BODY.false)
+assemble-end-requires c = omega (arith, fits c.args.address c.args.code c.args.«data».now c.body_length.ensures c.if-body_length-gt-LONGEST_BODY.false)
 
-pub slice_bounds-count_ff-end : goal.slice_bounds-count_ff-end
-slice_bounds-count_ff-end c =
+pub shared_ref_as_front-count_ff : goal.shared_ref_as_front-count_ff
+shared_ref_as_front-count_ff c =
     let short = fits c.args.address c.args.code c.args.«data».now c.body_length.ensures c.if-body_length-gt-LONGEST_BODY.false in
-    laid_end (omega (arith, c.requires)) c.assemble-end.ensures
-
--- the body ends by place 255, and has no more FF bytes than bytes
-pub overflow_add-result-2 : goal.overflow_add-result-2
-overflow_add-result-2 c =
-    let short = fits c.args.address c.args.code c.args.«data».now c.body_length.ensures c.if-body_length-gt-LONGEST_BODY.false in
-    let end = (laid_front (omega (arith, c.requires)) c.assemble-end.ensures).0 in
-    omega (arith, c.count_ff-count.ensures.1, length-take (c.assemble-end.result - 0) c.assemble-end.new.room)
+    let end = (laid_front (omega arith) c.assemble-end.ensures).0 in
+    omega arith
 
 pub returns : goal.returns
 returns c =
-    let laid = c.assemble-end in
-    let counted = c.count_ff-count.ensures.0 ∙ ap (λ (n : ℕ). count_ff (take n laid.new.room)) (sub-zero laid.result) in
     ready_prepared _ _ _ (sym c.legal.ensures ∙ c.if-not-legal.false)
-    (fits c.args.address c.args.code c.args.«data».now c.body_length.ensures c.if-body_length-gt-LONGEST_BODY.false) c.requires laid.ensures counted
+    (fits c.args.address c.args.code c.args.«data».now c.body_length.ensures c.if-body_length-gt-LONGEST_BODY.false) (omega arith) c.assemble-end.ensures
+    (c.count_ff-count.ensures ∙ counted_ff _)

@@ -4,8 +4,11 @@ use mathlib.Core.Path.{◌∙◌, sym}
 use Rattle.hour_cell.proofs.Counted.{by_its_reading, by_its_rule}
 use Rattle.hour_cell.proofs.counting.counts_as.Goals as goal
 
-pub returns-in-Good : goal.returns-in-Good
-returns-in-Good c = c.by_reading.ensures ∙ by_its_reading _ _ (sym c.weight_noted.ensures ∙ c.in-Good.is)
+pub returns-in-Ok : goal.returns-in-Ok
+returns-in-Ok c = c.by_reading.ensures ∙ by_its_reading _ _ (sym c.weight_noted.ensures ∙ c.in-Ok.is)
 
-pub returns-in-Refused : goal.returns-in-Refused
-returns-in-Refused c = c.unweighed.ensures ∙ by_its_rule _ _ (sym c.weight_noted.ensures ∙ c.in-Refused.is)
+pub returns-in-Err : goal.returns-in-Err
+returns-in-Err c = rw (← c.is_good.ensures, c.if-is_good.true) at (by_its_rule c.args.item c.in-Err.field-0 (sym c.weight_noted.ensures ∙ c.in-Err.is))
+
+pub returns-in-Err-2 : goal.returns-in-Err-2
+returns-in-Err-2 c = rw (← c.is_good.ensures, c.if-is_good.false) at (by_its_rule c.args.item c.in-Err.field-0 (sym c.weight_noted.ensures ∙ c.in-Err.is))

@@ -16,7 +16,7 @@ unfolding framed
 returns c =
     let body = c.args.body.now in
     let room = c.args.room.now in
-    let enough = c.requires.1 in
+    let enough = c.requires in
     let two = low_length 2 (length body) in
     let made = c.check_of in
     let two_more = low_length 2 made.result in
@@ -24,6 +24,6 @@ returns c =
     let to-length = laid_then {first = header} {second = low_bytes 2 (length body)} {room = room} (omega (arith, two, enough)) c.lay-behind_header.ensures c.lay_low-behind_length.ensures in
     let to-body = laid_then {first = header ++ low_bytes 2 (length body)} {second = body} {room = room} (omega (arith, two, enough)) to-length c.lay-behind_body.ensures in
     let all =
-    laid_then {first = header ++ low_bytes 2 (length body) ++ body} {second = low_bytes 2 made.result} {room = room} (omega (arith, two, two_more, enough, length-append (low_bytes 2 (length body)) body)) to-body c.lay_low.ensures in
+    laid_then {first = header ++ low_bytes 2 (length body) ++ body} {second = low_bytes 2 made.result} {room = room} (omega (arith, two, two_more, enough, length-append (low_bytes 2 (length body)) body)) to-body (rw c.from.ensures at c.lay_low.ensures) in
     let parts = append_assoc (header ++ low_bytes 2 (length body)) body (low_bytes 2 made.result) ∙ append_assoc header (low_bytes 2 (length body)) (body ++ low_bytes 2 made.result) in
     rw (sym made.ensures) (rw parts at all)

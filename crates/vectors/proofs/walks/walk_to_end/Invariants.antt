@@ -3,8 +3,8 @@
 use Rattle.std.proofs.Common.{◌-◌, length}
 use Rattle.vectors.proofs.walks.walk_to_end.Given as goal
 
-abbrev pub invariant-loop-body : goal.invariant-loop-body
-invariant-loop-body l = Unit {0}
+abbrev pub invariant-loop-next : goal.invariant-loop-next
+invariant-loop-next l = Unit {0}
 
-abbrev pub decreases-loop-body : goal.decreases-loop-body
-decreases-loop-body l = length l.block - l.place
+abbrev pub decreases-loop-next : goal.decreases-loop-next
+decreases-loop-next l = length l.block - l.place

@@ -1,11 +1,8 @@
 -- `line::Reader::take` meets its contract: one byte in, next state and event out.
 -- Why: the step of the place that the state is treated as is the byte taken by that state.
-use Rattle.std.proofs.Common.{◌∙◌, rules}
-use Rattle.line.proofs.Blocks.{sound_few, taken_is, taken_sound, soundly, takes}
+use Rattle.std.proofs.Common.{◌∙◌}
+use Rattle.line.proofs.Blocks.{taken_is, taken_sound, soundly, takes}
 use Rattle.line.proofs.reading.Reader.take.Goals as goal
-
-pub step-moved-requires : goal.step-moved-requires
-step-moved-requires c = (rw c.sound.ensures (sound_few c.args.self.place), search rules)
 
 pub returns : goal.returns
 returns c =

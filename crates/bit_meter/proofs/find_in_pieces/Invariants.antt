@@ -1,9 +1,0 @@
--- `bit_meter::find_in_pieces` is safe and ends: each turn leaves a piece behind, inside the block.
-use Rattle.std.proofs.Common.{◌-◌, ◌≤◌, length}
-use Rattle.bit_meter.proofs.find_in_pieces.Given as goal
-
-abbrev pub invariant-loop-at : goal.invariant-loop-at
-invariant-loop-at l = l.at ≤ length l.block
-
-abbrev pub decreases-loop-at : goal.decreases-loop-at
-decreases-loop-at l = length l.block - l.at
