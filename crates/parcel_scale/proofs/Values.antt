@@ -1,18 +1,20 @@
--- Shown: the largest division; a count times a division is at most 2^31 times 10^7, sign aside, and so fits 64 bits; when a weight's fields are legal.
--- Why: a power of ten grows with its exponent; the size of a product is the product of the sizes.
+-- Shown: the table of divisions, and the largest of them; a count times a division is at most 2^31 times 10^7, sign aside, and so fits 64 bits; when a weight's fields are legal.
+-- Why: the table is computed at each code; a power of ten grows with its exponent; the size of a product is the product of the sizes.
 use Prim.Native.Nat.{ℕ, suc, ◌+◌, ◌*◌, ◌%◌, ◌^◌, ◌≤◌}
 use mathlib.Core.Path.{◌≡◌, ◌∙◌, sym, ap, subst}
 use mathlib.Core.Bool.{true, false, ◌&&◌, and-eq-true_iff}
-use mathlib.Core.List.{[], ◌∷◌, ◌++◌}
+use mathlib.Core.List.{List, [], ◌∷◌, ◌++◌}
 use native.Mathlib.Nat.{mul-le-mul, div-div-eq-div-mul, pow-le-pow_right}
 use native.Mathlib.Omega.{arith}
 use borrow.Author.Tests.{leb-true}
-use lib.Dec.{leb}
+use lib.Dec.{leb, eqb, eqb→eq}
 use lib.IntN.{ℤ, pos, negsuc, nat_abs, ◌*ℤ◌, pos-*ℤ-pos, negsuc-*ℤ-pos}
+use lib.ListN.{get_or}
 use mir.Syntax.{w32, w64}
 use mir.Val.{SFits, to_z, of_z}
 use mir.ValLaws.{to_z-of_z, to_z_pos}
 use Rattle.std.specs.Int.{cast_signed, to_le_bytes}
+use Rattle.laws.proofs.Computed.{below}
 use Rattle.low_first.specs.LowFirst.{low_bytes}
 use Rattle.low_first.specs.Signed.{word_of}
 use Rattle.low_first.proofs.SignedWords.{word_fits}
@@ -25,6 +27,12 @@ use Rattle.parcel_scale.specs.Writing.{fields_of, body_of, legal_fields}
 use Rattle.parcel_scale.proofs.Rows.{weight_within, weight_outside}
 
 -- ---- the divisions
+
+abbrev divisions : List ℕ
+divisions = 1000 ∷ 10000 ∷ 100000 ∷ 1000000 ∷ 10000000 ∷ []
+
+pub division_at : (code : ℕ) → code ≤ 4 → get_or divisions code 0 ≡ division_of code
+division_at code h = eqb→eq _ _ (below (λ (code : ℕ). eqb (get_or divisions code 0) (division_of code)) 5 tt code (omega arith))
 
 pub division_most : (code : ℕ) → code ≤ 4 → division_of code ≤ 10000000
 division_most code h = pow-le-pow_right {n = 10} (omega arith) {i = 3 + code} {j = 7} (omega arith)
