@@ -9,10 +9,11 @@ use std::marker::Model;
 const LONGEST_LINE: usize = 85;
 
 // The bytes that stand so far, at the end of an array of our own. Each piece is put ahead of them.
+// `at` lies ahead of the array and is no `usize`: so LLVM sees that no byte put there changes it, and keeps it in a register.
 #[derive(Drop)]
 pub(crate) struct Line {
+    at: u32,
     text: [u8; LONGEST_LINE],
-    at: usize,
 }
 
 impl Model for Line {
@@ -39,15 +40,15 @@ impl Line {
         ensures { result ≡ [] }
     {
         Line {
+            at: LONGEST_LINE as u32,
             text: [0; LONGEST_LINE],
-            at: LONGEST_LINE,
         }
     }
 
     pub(crate) fn bytes(&self) -> &[u8]
         ensures { result.now ≡ self.now }
     {
-        &self.text[self.at..]
+        &self.text[self.at as usize..]
     }
 
     fn put_byte(&mut self, byte: u8)
@@ -55,7 +56,7 @@ impl Line {
         ensures { self.new ≡ byte ∷ self.old }
     {
         self.at -= 1;
-        self.text[self.at] = byte;
+        self.text[self.at as usize] = byte;
     }
 
     // Bytes as they are.
@@ -63,22 +64,28 @@ impl Line {
         requires { HasRoom (length piece.now) self.old }
         ensures { self.new ≡ piece.now ++ self.old }
     {
-        let behind = self.at;
-        self.at -= piece.len();
-        self.text[self.at..behind].copy_from_slice(piece);
+        let behind = self.at as usize;
+        self.at -= piece.len() as u32;
+        self.text[self.at as usize..behind].copy_from_slice(piece);
     }
 
-    // A number in decimal, without leading zeros.
+    // A number in decimal, without leading zeros. Two digits a turn: each turn divides what the one before left, so half as many wait.
     pub(crate) fn put_decimal(&mut self, number: u64)
         requires { HasRoom 20 self.old }
         ensures { self.new ≡ decimal number ++ self.old }
     {
         let mut left = number;
-        while 10 <= left {
+        while 100 <= left {
+            let tens = left / 10;
             self.put_byte(digit(left % 10));
-            left /= 10;
+            self.put_byte(digit(tens % 10));
+            left = tens / 10;
         }
-        self.put_byte(digit(left));
+        if left < 10 {
+            return self.put_byte(digit(left));
+        }
+        self.put_byte(digit(left % 10));
+        self.put_byte(digit(left / 10));
     }
 
     // The last digits of a number in a base, as many as are asked.

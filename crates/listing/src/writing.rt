@@ -1,5 +1,6 @@
-// Writes lines into lent room. Each line is put together in an array of our own, and then laid into the room at once.
-ghost use Rattle.std.specs.Prelude.{◌≡◌};
+// Writes lines into lent room. Each line is put together in an array of our own, and then laid into the room at once. A line is lent to
+// what puts it together, and not handed over: its bytes would be copied.
+ghost use Rattle.std.specs.Prelude.{◌≡◌, []};
 ghost use Rattle.room.specs.Writing.{Leaves};
 ghost use Rattle.entries.specs.Entries.{sound};
 ghost use Rattle.listing.specs.Lines.{line_of, total_of};
@@ -14,62 +15,61 @@ use room::write;
 use weight::{Reading, in_range};
 
 #[tactic(auto, using(crate::proofs::Lengths::sizes))]
-fn weight_line(number: u64, load: Load, address: Address, reading: Reading) -> Line
-    ensures { result ≡ line_of number (Some (Entry.Weight load address reading)) }
+fn put_weight(line: &mut Line, number: u64, load: Load, address: Address, reading: Reading)
+    requires { line.old ≡ [] }
+    ensures { line.new ≡ line_of number (Some (Entry.Weight load address reading)) }
 {
-    let mut line = Line::new();
     line.put_reading(reading);
     line.put_address(address);
     line.put_load(load);
     line.put_decimal(number);
-    line
 }
 
 #[tactic(auto, using(crate::proofs::Lengths::sizes))]
-fn message_line(number: u64, address: Address, code: u8) -> Line
-    ensures { result ≡ line_of number (Some (Entry.Message address code)) }
+fn put_message(line: &mut Line, number: u64, address: Address, code: u8)
+    requires { line.old ≡ [] }
+    ensures { line.new ≡ line_of number (Some (Entry.Message address code)) }
 {
-    let mut line = Line::new();
     line.put_code(code);
     line.put_address(address);
     line.put(b" message ");
     line.put_decimal(number);
-    line
 }
 
 #[tactic(auto, using(crate::proofs::Lengths::sizes))]
-fn refused_line(number: u64, why: Refusal) -> Line
-    ensures { result ≡ line_of number (Some (Entry.Refused why)) }
+fn put_refused(line: &mut Line, number: u64, why: Refusal)
+    requires { line.old ≡ [] }
+    ensures { line.new ≡ line_of number (Some (Entry.Refused why)) }
 {
-    let mut line = Line::new();
     line.put(b"\n");
     line.put_counted(b" refused ", u8::from(why) as u64);
     line.put_decimal(number);
-    line
 }
 
 // The line of an entry. If nothing was heard, there is no line.
-fn line_of(number: u64, entry: Option<Entry>) -> Line
-    ensures { result ≡ line_of number entry }
+fn put_line(line: &mut Line, number: u64, entry: Option<Entry>)
+    requires { line.old ≡ [] }
+    ensures { line.new ≡ line_of number entry }
 {
     match entry {
-        None => Line::new(),
-        Some(Entry::Weight(load, address, reading)) => weight_line(number, load, address, reading),
-        Some(Entry::Message(address, code)) => message_line(number, address, code),
-        Some(Entry::Refused(why)) => refused_line(number, why),
+        None => {}
+        Some(Entry::Weight(load, address, reading)) => {
+            put_weight(line, number, load, address, reading);
+        }
+        Some(Entry::Message(address, code)) => put_message(line, number, address, code),
+        Some(Entry::Refused(why)) => put_refused(line, number, why),
     }
 }
 
 #[tactic(auto, using(crate::proofs::Lengths::sizes))]
-fn total_line(total: u64, weights: u64, refused: u64) -> Line
-    ensures { result ≡ total_of total weights refused }
+fn put_total(line: &mut Line, total: u64, weights: u64, refused: u64)
+    requires { line.old ≡ [] }
+    ensures { line.new ≡ total_of total weights refused }
 {
-    let mut line = Line::new();
     line.put(b"\n");
     line.put_counted(b" refused ", refused);
     line.put_counted(b" weights ", weights);
     line.put_counted(b"total ", total);
-    line
 }
 
 // 8 is given for a reading whose number or point is out of its range or whose family reserves a bit that is set, and for a refusal that no line can meet.
@@ -91,7 +91,8 @@ pub fn write_line(number: u64, entry: Option<Entry>, room: &mut [u8]) -> Result<
     if !is_sound(entry) {
         return Err(Refusal::FieldOutside);
     }
-    let line = line_of(number, entry);
+    let mut line = Line::new();
+    put_line(&mut line, number, entry);
     write(line.bytes(), room)
 }
 
@@ -105,6 +106,7 @@ pub fn write_total(
 ) -> Result<usize, Refusal>
     ensures { Leaves (written_total total weights refused room.old) result room.new }
 {
-    let line = total_line(total, weights, refused);
+    let mut line = Line::new();
+    put_total(&mut line, total, weights, refused);
     write(line.bytes(), room)
 }
