@@ -60,15 +60,18 @@ def has_lemma(crate: str, name: str) -> bool:
     return any(known.name == name for file in files_of(crate, 'proofs') for known in definitions_in(file))
 
 
+OF_CROSSING = ('writes_one', 'family_from_one')  # laws of `crossing` that rows of other crates name
+
+
 def law_of(crate: str, row: Row) -> list[Finding]:
-    """The column 'one answer' names a law of the crate's own; the exported writers share one of `crossing`."""
+    """The column 'one answer' names a law of the crate's own, or more than one, where a definition has its own beside the function's."""
     if crate in OF_INPUT:
         return []
     named = re.findall(r'`(\w+_one)`', row.cells[2])
-    if len(named) != 1:
-        return [Finding(PROMISES, row.line, f'`{row.name}` does not name one one-answer law')]
-    home = 'crossing' if named[0] == 'writes_one' else crate
-    return [] if has_lemma(home, named[0]) else [Finding(PROMISES, row.line, f'`{home}` has no law `{named[0]}`')]
+    if not named:
+        return [Finding(PROMISES, row.line, f'`{row.name}` does not name a one-answer law')]
+    homes = {law: 'crossing' if law in OF_CROSSING else crate for law in named}
+    return [Finding(PROMISES, row.line, f'`{home}` has no law `{law}`') for law, home in homes.items() if not has_lemma(home, law)]
 
 
 def said_of(crate: str) -> dict[str, tuple[Path, int, str]]:

@@ -96,27 +96,28 @@ pub fn row_of(role: Role, code: u8) -> Option<Row>
 }
 
 // How many data bytes a row has.
-fn length_of(row: Row) -> Length
-    ensures { result ≡ length_of (Some row) }
+fn length_of(row: Option<Row>) -> Length
+    ensures { result ≡ length_of row }
 {
     match row {
-        Row::Empty => Length::Exactly(0),
-        Row::Serial => Length::Exactly(3),
-        Row::Number(_) => Length::Exactly(1),
-        Row::Status => Length::Exactly(1),
-        Row::Weight(_) => Length::Exactly(4),
-        Row::Inputs => Length::Exactly(4),
-        Row::Outputs => Length::Exactly(4),
-        Row::Text(_) => Length::Counted,
-        Row::Event => Length::Exactly(7),
-        Row::Converter => Length::Exactly(5),
-        Row::Error => Length::Exactly(1),
+        None => Length::Exactly(0), // 6 comes first
+        Some(Row::Empty) => Length::Exactly(0),
+        Some(Row::Serial) => Length::Exactly(3),
+        Some(Row::Number(_)) => Length::Exactly(1),
+        Some(Row::Status) => Length::Exactly(1),
+        Some(Row::Weight(_)) => Length::Exactly(4),
+        Some(Row::Inputs) => Length::Exactly(4),
+        Some(Row::Outputs) => Length::Exactly(4),
+        Some(Row::Text(_)) => Length::Counted,
+        Some(Row::Event) => Length::Exactly(7),
+        Some(Row::Converter) => Length::Exactly(5),
+        Some(Row::Error) => Length::Exactly(1),
     }
 }
 
-// Refusal 7's rule.
-pub fn length_right(row: Row, data: &[u8]) -> bool
-    ensures { result ≡ length_right (length_of (Some row)) «data».now }
+// Refusal 7's rule, of a row as the table answers it.
+pub fn length_right(row: Option<Row>, data: &[u8]) -> bool
+    ensures { result ≡ length_right (length_of row) «data».now }
 {
     match length_of(row) {
         Length::Exactly(count) => data.len() == count,

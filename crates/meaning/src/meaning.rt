@@ -130,7 +130,7 @@ pub fn tell(
     ensures { result ≡ told role family address code «data».now }
 {
     let row = row_of(role, code).ok_or(Refusal::CodeUnknown)?;
-    if !length_right(row, data) {
+    if !length_right(Some(row), data) {
         return Err(Refusal::LengthWrong);
     }
     say(family, row, address, data)

@@ -1,8 +1,11 @@
 -- Shown: each promise of this crate admits one answer.
 -- Why: each is an equation with a definition.
+use Rattle.std.specs.Prelude.{Result, ℤ, Float}
 use mathlib.Core.Path.{◌≡◌}
 use Rattle.laws.proofs.OneAnswer.{one}
+use Rattle.refusal.specs.declared.Refusal.{Refusal}
 use Rattle.weight.specs.declared.FourBytes.{FourBytes}
+use Rattle.weight.specs.declared.Reading.{Reading}
 use Rattle.weight.specs.Bytes.{read_of}
 use Rattle.quay_weight.specs.declared.weights.QuayReading.{QuayReading}
 use Rattle.quay_weight.specs.declared.weights.QuayValue.{QuayValue}
@@ -26,3 +29,14 @@ module _ (weight : FourBytes) where
       → a ≡ value_out (difference_read (read_of weight) (read_of net))
       → b ≡ value_out (difference_read (read_of weight) (read_of net)) → a ≡ b
   quay_difference_one net a b = one
+
+-- of the conversions
+
+pub reading_out_one : (read : Result Reading Refusal) (a b : QuayReading) → a ≡ reading_out read → b ≡ reading_out read → a ≡ b
+reading_out_one read a b = one
+
+pub value_out_one : (value : Result ℤ Refusal) (a b : QuayValue) → a ≡ value_out value → b ≡ value_out value → a ≡ b
+value_out_one value a b = one
+
+pub kilograms_out_one : (weighed : Result Float Refusal) (a b : QuayKilograms) → a ≡ kilograms_out weighed → b ≡ kilograms_out weighed → a ≡ b
+kilograms_out_one weighed a b = one

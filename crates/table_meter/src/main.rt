@@ -5,7 +5,7 @@
 
 use blocks::read_full;
 use hour_cell::Cell;
-use hour_table::{Filled, empty_table, fill};
+use hour_table::{empty_table, fill, table_of};
 use refusal::Refusal;
 use std::io;
 use std::io::Read;
@@ -41,7 +41,7 @@ struct Told {
 // A proved loop has to end, but nothing says that an input ends. So the turns are counted up to a number that no run uses up.
 // The meters repeat this loop: a library function over what is done with a block would need a `requires` on it, and no public function has one.
 fn fill_all(input: &mut impl Read, block: &mut [u8]) -> io::Result<Told> {
-    let mut filled_before = empty_table();
+    let mut table = empty_table();
     let mut good = 0u64;
     let mut stopped = 0u64;
     for _ in 0..u64::MAX {
@@ -49,19 +49,15 @@ fn fill_all(input: &mut impl Read, block: &mut [u8]) -> io::Result<Told> {
         if count == 0 {
             break;
         }
-        let Filled {
-            table,
-            records,
-            verdict,
-        } = fill(&block[..count], filled_before);
-        good = good.wrapping_add(records as u64);
-        stopped = stopped.wrapping_add(stops(verdict));
-        filled_before = table;
+        let filled = fill(&block[..count], table);
+        good = good.wrapping_add(filled.records as u64);
+        stopped = stopped.wrapping_add(stops(filled.verdict));
+        table = table_of(filled);
     }
     Ok(Told {
         good,
         stopped,
-        sum: sum_of(&filled_before),
+        sum: sum_of(&table),
     })
 }
 

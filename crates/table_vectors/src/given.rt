@@ -32,12 +32,21 @@ pub(crate) fn take_length(input: Stdin) -> io::Result<usize>
     Ok(usize::from(take_half(input)?).min(LONGEST_GIVEN))
 }
 
+// Eight bytes, asked for four at a time: at a terminal more may come behind an end.
+fn take_eight(mut input: Stdin) -> io::Result<[u8; 8]> {
+    let mut bytes = [0u8; 8];
+    for four in bytes.chunks_exact_mut(4) {
+        read_full(&mut input, four)?;
+    }
+    Ok(bytes)
+}
+
 pub(crate) fn take_long(input: Stdin) -> io::Result<u64> {
-    Ok(u64::from_le_bytes(take::<8>(input)?))
+    Ok(u64::from_le_bytes(take_eight(input)?))
 }
 
 pub(crate) fn take_signed(input: Stdin) -> io::Result<i64> {
-    Ok(i64::from_le_bytes(take::<8>(input)?))
+    Ok(i64::from_le_bytes(take_eight(input)?))
 }
 
 pub(crate) fn take_cell(input: Stdin) -> io::Result<Cell> {

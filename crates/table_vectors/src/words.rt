@@ -1,7 +1,7 @@
 // What an answer is made of: words, each behind a blank. A number is told in decimal, a signed one by its 64 bits in hex.
 use hour_cell::{Cell, Slot};
 use hour_mean::Fraction;
-use hour_table::Filled;
+use hour_table::{Filled, table_of};
 use refusal::Refusal;
 use std::io;
 use std::io::Stdout;
@@ -74,14 +74,14 @@ fn say_table(table: &[[Cell; 24]; 7], out: Stdout) -> io::Result<()> {
 
 pub(crate) fn say_filled(filled: Filled, out: Stdout) -> io::Result<()> {
     let Filled {
-        table,
         records,
         verdict,
+        ..
     } = filled;
     match verdict {
         Ok(()) => print!(out; " 0")?,
         Err(why) => say_refusal(why, out)?,
     }
     print!(out; " {records}")?;
-    say_table(&table, out)
+    say_table(&table_of(filled), out)
 }

@@ -1,6 +1,6 @@
 // What a case hands in beside its text: numbers, low byte first, taken from standard input one after the other. Past the input's end they
 // are 0. So a case cut short gives a wrong answer, and that is seen.
-ghost use Rattle.std.specs.Prelude.{◌≤◌, IfOk};
+ghost use Rattle.std.specs.Prelude.{◌<◌, ◌≤◌, IfOk};
 
 use blocks::read_full;
 use body::Address;
@@ -12,9 +12,12 @@ use weight::{Family, Reading};
 // The longest text, and the longest room.
 pub(crate) const LONGEST_GIVEN: usize = 4096;
 
+// Each byte is asked for by itself: at a terminal more may come behind an end.
 fn take<const COUNT: usize>(mut input: Stdin) -> io::Result<[u8; COUNT]> {
     let mut bytes = [0u8; COUNT];
-    read_full(&mut input, &mut bytes)?;
+    for byte in bytes.chunks_exact_mut(1) {
+        read_full(&mut input, byte)?;
+    }
     Ok(bytes)
 }
 
@@ -28,7 +31,9 @@ pub(crate) fn take_flag(input: Stdin) -> io::Result<bool> {
 }
 
 // Two bytes.
-pub(crate) fn take_half(input: Stdin) -> io::Result<usize> {
+pub(crate) fn take_half(input: Stdin) -> io::Result<usize>
+    ensures { IfOk result (λ n. n < 65536) }
+{
     Ok(usize::from(u16::from_le_bytes(take::<2>(input)?)))
 }
 

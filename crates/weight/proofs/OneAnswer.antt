@@ -1,6 +1,6 @@
 -- Shown: the promise of each public function of this crate admits one answer.
 -- Why: each is an equation with a definition, so two answers that meet it are equal by way of that definition.
-use Rattle.std.specs.Prelude.{Result, Option, ℤ}
+use Rattle.std.specs.Prelude.{Result, Option, ok_or, ℤ}
 use mathlib.Core.Path.{◌≡◌}
 use mathlib.Core.Bool.{Bool}
 use Prim.Native.Nat.{ℕ}
@@ -12,6 +12,7 @@ use Rattle.weight.specs.Families.{family_number, family_named}
 use Rattle.weight.specs.Bytes.{in_range, read_of, packed_of}
 use Rattle.weight.specs.Tenths.{value_of, difference_of}
 use Rattle.refusal.specs.declared.Refusal.{Refusal}
+use Rattle.refusal.specs.declared.Refusal.TheVariants.{FieldOutside}
 
 pub read_bytes_one : (bytes : FourBytes) (a b : Result Reading Refusal) → a ≡ read_of bytes → b ≡ read_of bytes → a ≡ b
 read_bytes_one bytes a b = one
@@ -33,3 +34,7 @@ family_number_one family a b = one
 
 pub family_named_one : (number : ℕ) (a b : Option Family) → a ≡ family_named number → b ≡ family_named number → a ≡ b
 family_named_one number a b = one
+
+-- what the conversion answers: the family, or 8
+pub try_from_one : (number : ℕ) (a b : Result Family Refusal) → a ≡ ok_or (family_named number) FieldOutside → b ≡ ok_or (family_named number) FieldOutside → a ≡ b
+try_from_one number a b = one
