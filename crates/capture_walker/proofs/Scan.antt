@@ -6,6 +6,7 @@ use mathlib.Core.Path.{◌≡◌, ◌∙◌, refl, sym, ap}
 use mathlib.Core.Bool.{Bool, true, false}
 use mathlib.Core.List.{List, [], ◌∷◌}
 use native.Mathlib.Omega.{arith}
+use native.Mathlib.Numerals.{add-one}
 use borrow.Author.Tests.{leb-true, leb-false}
 use lib.Dec.{leb}
 use lib.ListN.{length, drop, get_or, drop_of_length-le}
@@ -18,7 +19,7 @@ use Rattle.line.specs.Listener.{nothing, Listener, hear}
 use Rattle.line.specs.Readers.{listening, place_of, taken, unless, fed_from, fed}
 use Rattle.line.proofs.Blocks.{standing, lent_full}
 use Rattle.capture_walker.specs.Walking.{start_at, said_end, after_hearing, step_from}
-use Rattle.capture_walker.specs.Scanning.{delimited_at, starts_body}
+use Rattle.capture_walker.specs.Scanning.{delimited_at, starts_body, SameStep}
 use Rattle.capture_walker.proofs.AtRest.{at_start, none_kept, at_rest_byte}
 use Rattle.capture_walker.proofs.OneStep.{step_ends, step_hears}
 
@@ -78,3 +79,7 @@ module _ (block : List ℕ) (place : ℕ) (within : place < length block) (none 
 
   pub next_place : step_from block (suc place) lent ≡ step_from block place lent
   next_place = sym (step_hears block place lent within ∙ ap (after_hearing place) (lent_full _ _ lent full ∙ heard_on) ∙ from_behind (leb (length block) (suc place)) refl)
+
+-- the step from where a scan began is the step from behind a byte that it passed
+pub passed : (block : List ℕ) (from at : ℕ) → at < length block → starts_body (delimited_at block at) (get_or block at 0) ≡ false → SameStep block from at → SameStep block from (at + 1)
+passed block from at within none so = λ lent full. rw add-one (next_place block at within none lent full ∙ so lent full)

@@ -30,6 +30,7 @@ fn starts_body(block: &[u8], place: usize) -> bool
 
 // The first byte of the next body, if one starts in the rest of the block. Nothing is heard and nothing kept of the bytes ahead of it, so the step
 // from there is the step from here.
+#[tactic(auto, using(crate::proofs::Scan::passed))]
 pub(crate) fn next_body(block: &[u8], from: usize) -> Option<usize>
     ensures { NextBody block.now from result }
 {

@@ -1,4 +1,5 @@
 pub mod Folding
+pub mod Fronts
 pub mod Halves
 pub mod Laws
 pub mod OneAnswer

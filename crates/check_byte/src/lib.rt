@@ -82,6 +82,7 @@ fn enter_few(register: u8, few: &[u8]) -> u32
 }
 
 // All bytes of a slice into the register, in order.
+#[tactic(auto, using(crate::proofs::Fronts::front_in))]
 pub fn feed_all(register: u8, bytes: &[u8]) -> u8
     ensures { result ≡ feed_all register bytes.now }
 {

@@ -15,7 +15,7 @@ use Rattle.hour_cell.specs.declared.counting.CountsAs.TheVariants as counts_kind
 use Rattle.hour_cell.specs.Counting.{by_reading, by_noted, counts_as}
 
 module _ (item : Record) where
-  broken_noted : good item ≡ false → weight_noted item ≡ Err RecordBroken
+  pub broken_noted : good item ≡ false → weight_noted item ≡ Err RecordBroken
   unfolding weight_noted
   broken_noted g = rw g
 
@@ -47,3 +47,15 @@ module _ (item : Record) where
       by_rule true true g m = refl
       by_rule true false g m = absurd (true≢false (sym (good_reads g m) ∙ ap readable (sym (weighing_noted item g m) ∙ noted)))
       by_rule false m g met = let same : Err RecordBroken ≡ Err why = sym (broken_noted g) ∙ noted in cc
+
+  -- where it notes none: a good record is a refusal met on the line
+  pub met_where_good : (why : Refusal) → weight_noted item ≡ Err why → good item ≡ true → Ok counts_kind.Met ≡ counts_as item
+  met_where_good why noted is_good = rw is_good at (by_its_rule why noted)
+
+  -- and any other is 11
+  pub broken_counts : good item ≡ false → counts_as item ≡ Err RecordBroken
+  unfolding counts_as
+  broken_counts broken = rw broken
+
+-- what each of the three ways comes to
+pub ruleset ways = (by_its_reading, met_where_good, broken_noted, broken_counts)

@@ -29,6 +29,7 @@ fn by_reading(kind: u8, reading: Reading) -> Result<CountsAs, Refusal>
 }
 
 // What a record counts as, or 11. A good record that notes no weight is of kind 3. Behind `records::step` the compiler judges it once.
+#[tactic(auto, using(crate::proofs::Counted::ways))]
 pub fn counts_as(item: Record) -> Result<CountsAs, Refusal>
     ensures { result ≡ counts_as item }
 {

@@ -3,7 +3,7 @@
 #![tactic(auto)]
 
 ghost use Rattle.std.specs.Prelude.{◌≡◌, ◌<◌};
-ghost use Rattle.hour_mean.specs.Means.{greatest_common, mean_of};
+ghost use Rattle.hour_mean.specs.Means.{greatest_common, lowest, mean_of};
 
 use hour_cell::{Cell, is_sound, size_of};
 use refusal::Refusal;
@@ -27,6 +27,18 @@ fn common(size: u64, count: u64) -> u64
     common(count, left)
 }
 
+// A sum over a count that is not 0, in lowest terms.
+fn lowest_terms(sum: i64, count: u16) -> Fraction
+    requires { 0 < count }
+    ensures { result ≡ lowest sum count }
+{
+    let shared = common(size_of(sum), u64::from(count)) as i64;
+    Fraction {
+        upper: sum / shared,
+        lower: i64::from(count) / shared,
+    }
+}
+
 // The mean of a cell. Judged 31; a cell with no weights has no mean.
 #[tactic(auto, unfolding(crate::specs::Means::mean_of))]
 pub fn mean_of(cell: Cell) -> Result<Option<Fraction>, Refusal>
@@ -38,11 +50,6 @@ pub fn mean_of(cell: Cell) -> Result<Option<Fraction>, Refusal>
     if cell.weights == 0 {
         return Ok(None);
     }
-    let count = cell.weights;
-    let shared = common(size_of(cell.sum), u64::from(count)) as i64;
-    let mean = Fraction {
-        upper: cell.sum / shared,
-        lower: i64::from(count) / shared,
-    };
+    let mean = lowest_terms(cell.sum, cell.weights);
     Ok(Some(mean))
 }

@@ -23,6 +23,11 @@ table_in filled = filled.table
 abbrev pub stays : Table → Refusal → Filled
 stays table why = record { table = table; records = 0; verdict = Err why }
 
+-- how many records went in, where one was tried: none if it is refused
+abbrev pub gone_in : Result (Unit {0}) Refusal → ℕ
+gone_in (Ok tt) = 1
+gone_in (Err why) = 0
+
 -- a cell replaced, or the table as it was
 abbrev pub replaced_by : Result Cell Refusal → Slot → Table → Filled
 replaced_by (Ok cell) slot table = record { table = with_cell table slot cell; records = 1; verdict = Ok tt }

@@ -1,7 +1,7 @@
 // Records into a table: 31 of any lent cell, then record by record 10 and 11 as the log gives them, and 23. At a refusal the table stays as before that
 // record, and nothing behind it goes in.
 ghost use Rattle.std.specs.Prelude.{◌≡◌, ◌/◌};
-ghost use Rattle.hour_table.specs.Filling.{put, entered, from_here, filled_from};
+ghost use Rattle.hour_table.specs.Filling.{gone_in, put, entered, from_here, filled_from};
 
 use crate::filled::Filled;
 use crate::tables::is_sound_table;
@@ -29,8 +29,23 @@ fn put(item: Record, table: &mut [[Cell; 24]; 7]) -> Result<(), Refusal>
     Ok(())
 }
 
+// A record was tried: it has gone in exactly if it is not refused.
+fn tried(table: [[Cell; 24]; 7], verdict: Result<(), Refusal>) -> Filled
+    ensures { result ≡ record { table = table; records = gone_in verdict; verdict = verdict } }
+{
+    let records = match verdict {
+        Ok(()) => 1,
+        Err(_) => 0,
+    };
+    Filled {
+        table,
+        records,
+        verdict,
+    }
+}
+
 // One record into a table.
-#[tactic(auto, unfolding(crate::specs::Filling::entered))]
+#[tactic(auto, using(crate::proofs::Entered::put_whole), unfolding(crate::specs::Filling::entered))]
 pub fn enter(item: Record, table: [[Cell; 24]; 7]) -> Filled
     ensures { result ≡ entered item table }
 {
@@ -43,11 +58,7 @@ pub fn enter(item: Record, table: [[Cell; 24]; 7]) -> Filled
     }
     let mut cells = table;
     let verdict = put(item, &mut cells);
-    Filled {
-        table: cells,
-        records: usize::from(verdict.is_ok()),
-        verdict,
-    }
+    tried(cells, verdict)
 }
 
 // Record by record from a place on, up to the end of the log or to the first refusal. The place goes on behind each record that went in.
@@ -59,6 +70,17 @@ fn pour(log: &[u8], place: &mut usize, table: &mut [[Cell; 24]; 7]) -> Result<()
         *place = next;
     }
     Ok(())
+}
+
+// A log was poured up to a place: the records ahead of it have gone in.
+fn poured_to(place: usize, cells: [[Cell; 24]; 7], ending: Result<(), Refusal>) -> Filled
+    ensures { result ≡ record { table = cells; records = place / 20; verdict = ending } }
+{
+    Filled {
+        table: cells,
+        records: place / RECORD_BYTES,
+        verdict: ending,
+    }
 }
 
 // A lent log into a table. The table goes by value, the form that is expected here, and once: below, a record replaces its cell.
@@ -75,10 +97,6 @@ pub fn fill(log: &[u8], table: [[Cell; 24]; 7]) -> Filled
     }
     let mut cells = table;
     let mut place = 0;
-    let verdict = pour(log, &mut place, &mut cells);
-    Filled {
-        table: cells,
-        records: place / RECORD_BYTES,
-        verdict,
-    }
+    let ending = pour(log, &mut place, &mut cells);
+    poured_to(place, cells, ending)
 }

@@ -1,23 +1,12 @@
 -- `check_byte::feed_all` meets its contract: all bytes enter the register in order.
 -- Why: what the bytes not yet fed make of the register that the wide number stands for is what the whole slice makes of the first one.
-use Rattle.std.proofs.Common.{ℕ, ◌∙◌, sym, ◌≤◌, ◌<◌, ◌+◌, ◌*◌, ◌/◌, ◌%◌, ap, arith, length, take, drop, get_or, length-drop}
-use Rattle.std.proofs.lemmas.List.{take-append-drop, get_or-drop}
+use Rattle.std.proofs.Common.{ℕ, ◌∙◌, ◌≤◌, ◌<◌, ◌+◌, ◌*◌, ◌/◌, ◌%◌, ap, arith, length, drop, get_or, length-drop}
+use Rattle.std.proofs.lemmas.List.{get_or-drop}
 use lib.ListN.{drop_of_length-le}
 use Rattle.register.proofs.Slices.{four_in}
 use Rattle.check_byte.specs.Register.{feed_byte, feed_all}
-use Rattle.check_byte.proofs.Laws.{feed_append}
 use Rattle.check_byte.proofs.Wide.{stands_for, byte_behind}
 use Rattle.check_byte.proofs.feed_all.Goals as goal
-
-pub loop-four-init : goal.loop-four-init
-loop-four-init c =
-    let bytes = c.args.bytes.now in
-    let odd = length bytes % 4 in (
-      omega arith,
-      ap (λ (n : ℕ). feed_all n (drop odd bytes)) (c.enter_few-wide.ensures ∙ ap (feed_all c.args.register) c.as_rchunks.ensures.front)
-          ∙ sym (feed_append c.args.register (take odd bytes) (drop odd bytes))
-          ∙ ap (feed_all c.args.register) (take-append-drop odd bytes),
-    )
 
 pub loop-four-preserved : goal.loop-four-preserved
 unfolding feed_all

@@ -7,4 +7,4 @@ use Rattle.hour_table.proofs.filling.fill.Goals as goal
 
 pub returns : goal.returns
 unfolding filled_from
-returns c = rw (← c.is_sound_table.ensures, c.if-not-is_sound_table.false) (c.pour-verdict.ensures ∙ from_front _ _)
+returns c = rw (← c.is_sound_table.ensures, c.if-not-is_sound_table.false) (c.poured_to.ensures ∙ c.pour-ending.ensures ∙ from_front _ _)
