@@ -83,7 +83,7 @@ fn poured_to(place: usize, cells: [[Cell; 24]; 7], ending: Result<(), Refusal>) 
     }
 }
 
-// A lent log into a table. The table goes by value, the form that is expected here, and once: below, a record replaces its cell.
+// A lent log into a table. The table goes by value, the form that is expected here, in and into the answer; a record replaces its cell.
 #[tactic(auto, unfolding(crate::specs::Filling::filled_from))]
 pub fn fill(log: &[u8], table: [[Cell; 24]; 7]) -> Filled
     ensures { result ≡ filled_from log.now table }
