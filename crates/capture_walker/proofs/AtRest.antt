@@ -1,15 +1,14 @@
--- Shown: a walk starts at rest: its start stands for itself whatever is lent, and a byte that starts no body leads to the start behind it.
+-- Shown: a walk starts at rest: its start stands for itself whatever is lent, a byte that starts no body leads to the start behind it, and one that
+-- starts a body opens it.
 -- Why: no body is open, so that no kept byte is looked at, and at rest only the byte before tells the state.
 use Prim.Native.Nat.{ℕ, zero, suc, ◌+◌, ◌-◌, ◌%◌, ◌^◌, ◌<◌}
 use mathlib.Core.Path.{◌≡◌, ◌∙◌, refl, ap}
 use mathlib.Core.Bool.{Bool, true, false, cond}
-use mathlib.Core.List.{List, []}
+use mathlib.Core.List.{List, [], ◌∷◌}
 use native.Mathlib.Omega.{arith}
 use lib.Dec.{eqb}
 use lib.ListN.{get_or}
-use Rattle.line.specs.declared.places.Place.{Place}
-use Rattle.line.specs.declared.places.Phase.TheVariants.{Delimited}
-use Rattle.line.specs.Listener.{nothing, seeking, delimited, Listener, step, tick, hear_in, hear}
+use Rattle.line.specs.Listener.{nothing, seeking, delimited, inside, Listener, step, keep, tick, hear_in, hear}
 use Rattle.line.specs.Readers.{listening, kept_of, place_of}
 use Rattle.capture_walker.specs.Walking.{state_behind, start_at}
 use Rattle.capture_walker.specs.Scanning.{delimited_at, starts_body}
@@ -52,15 +51,9 @@ rests_empty false = refl
 pub none_kept : (block : List ℕ) (place : ℕ) → kept_of (start_at block place).state ≡ []
 none_kept block place = rw (start_is block place) (rests_empty (delimited_at block place))
 
--- behind a delimiter: the state, and the place
+-- behind a delimiter: the state
 pub delimited_there : (block : List ℕ) (place : ℕ) → delimited_at block place ≡ true → (start_at block place).state ≡ delimited
 delimited_there block place ff = rw (start_is block place, ff)
-
-pub place_behind_ff : (block : List ℕ) (place : ℕ) → place < 2 ^ 64 → delimited_at block place ≡ true
-    → ◌≡◌ {A = Place} (record { phase = Delimited; wire = record { 0 = place }; kept = record { 0 = 0 } }) (place_of (start_at block place))
-place_behind_ff block place fits ff =
-    let counted : place % 2 ^ 64 ≡ place = omega arith in
-    rw (start_is block place, ff, counted)
 
 -- ---- one byte at rest
 
@@ -101,3 +94,25 @@ started_byte block place none =
 pub at_rest_byte : (block : List ℕ) (place : ℕ) → starts_body (delimited_at block place) (get_or block place 0) ≡ false
     → hear (start_at block place) (get_or block place 0) ≡ record { next = start_at block (suc place); event = nothing }
 at_rest_byte block place none = ap (λ (l : Listener). hear l (get_or block place 0)) (start_is block place) ∙ started_byte block place none
+
+-- ---- a body's first byte
+
+first_in : (byte wire : ℕ) (ff fe : Bool) → eqb byte 0xFF ≡ ff → eqb byte 0xFE ≡ fe → starts_body true byte ≡ true → hear_in delimited byte wire ≡ step (inside (byte ∷ [])) wire nothing
+unfolding hear_in keep
+first_in byte wire true fe e f starts =
+    let no : false ≡ true = rw e at starts in
+    let z : ◌≡◌ {A = ℕ} 0 1 = cc in absurd (omega arith)
+first_in byte wire false true e f starts =
+    let no : false ≡ true = rw (e, f) at starts in
+    let z : ◌≡◌ {A = ℕ} 0 1 = cc in absurd (omega arith)
+first_in byte wire false false e f starts = rw (e, f)
+
+-- it is kept, and opens the body
+pub first_byte : (block : List ℕ) (start : ℕ) → start + 1 < 2 ^ 64 → starts_body (delimited_at block start) (get_or block start 0) ≡ true
+    → hear (start_at block start) (get_or block start 0) ≡ step (inside (get_or block start 0 ∷ [])) (start + 1) nothing
+unfolding hear tick
+first_byte block start fits starts =
+    let byte = get_or block start 0 in
+    let ff = behind_delimiter (delimited_at block start) byte starts in
+    let counted : (start % 2 ^ 64 + 1) % 2 ^ 64 ≡ start + 1 = omega arith in
+    rw (start_is block start, ff, counted) (first_in byte (start + 1) (eqb byte 0xFF) (eqb byte 0xFE) refl refl (rw ff at starts))

@@ -1,4 +1,5 @@
 pub mod AtRest
+pub mod FirstByte
 pub mod OneAnswer
 pub mod OneStep
 pub mod Scan

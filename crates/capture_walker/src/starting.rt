@@ -1,5 +1,5 @@
 // Where the next body starts, which the whole block at hand tells quickly; how much of the block it can need; and where a walk stands there.
-ghost use Rattle.std.specs.Prelude.{◌≡◌, ◌<◌, ◌≤◌, length, take, slice_index};
+ghost use Rattle.std.specs.Prelude.{◌≡◌, ◌+◌, ◌<◌, ◌≤◌, length, take, slice_index};
 ghost use Rattle.capture_walker.specs.Scanning.{delimited_at, starts_body, NextBody, longest_on_wire};
 
 use line::{BodyPlace, Phase, Place, WirePlace};
@@ -50,13 +50,14 @@ pub(crate) fn reach(rest: &[u8]) -> &[u8]
     &rest[..LONGEST_ON_WIRE.min(rest.len())]
 }
 
-// Behind a delimiter, with no body open, and the wire count going on from the place.
-pub(crate) fn behind_delimiter(place: usize) -> Place
-    ensures { result ≡ record { phase = Phase.Delimited; wire = record { 0 = place }; kept = record { 0 = 0 } } }
+// Behind a body's first byte, which is kept, and the wire count going on from its place.
+pub(crate) fn behind_first_byte(start: usize) -> Place
+    requires { start < 18446744073709551615 }
+    ensures { result ≡ record { phase = Phase.Inside; wire = record { 0 = start + 1 }; kept = record { 0 = 1 } } }
 {
     Place {
-        phase: Phase::Delimited,
-        wire: WirePlace(place as u64),
-        kept: BodyPlace(0),
+        phase: Phase::Inside,
+        wire: WirePlace(start as u64 + 1),
+        kept: BodyPlace(1),
     }
 }
