@@ -1,14 +1,15 @@
 -- Shown: a walk starts at rest: its start stands for itself whatever is lent, a byte that starts no body leads to the start behind it, and one that
--- starts a body opens it.
+-- starts a body is kept as in a body that is open.
 -- Why: no body is open, so that no kept byte is looked at, and at rest only the byte before tells the state.
 use Prim.Native.Nat.{ℕ, zero, suc, ◌+◌, ◌-◌, ◌%◌, ◌^◌, ◌<◌}
-use mathlib.Core.Path.{◌≡◌, ◌∙◌, refl, ap}
+use mathlib.Core.Path.{◌≡◌, ◌∙◌, refl, sym, ap}
 use mathlib.Core.Bool.{Bool, true, false, cond}
 use mathlib.Core.List.{List, [], ◌∷◌}
 use native.Mathlib.Omega.{arith}
 use lib.Dec.{eqb}
 use lib.ListN.{get_or}
-use Rattle.line.specs.Listener.{nothing, seeking, delimited, inside, Listener, step, keep, tick, hear_in, hear}
+use Rattle.line.specs.declared.places.Phase.TheVariants.{Inside}
+use Rattle.line.specs.Listener.{nothing, State, seeking, delimited, inside, Listener, step, keep, tick, hear_in, hear}
 use Rattle.line.specs.Readers.{listening, kept_of, place_of}
 use Rattle.capture_walker.specs.Walking.{state_behind, start_at}
 use Rattle.capture_walker.specs.Scanning.{delimited_at, starts_body}
@@ -97,22 +98,27 @@ at_rest_byte block place none = ap (λ (l : Listener). hear l (get_or block plac
 
 -- ---- a body's first byte
 
-first_in : (byte wire : ℕ) (ff fe : Bool) → eqb byte 0xFF ≡ ff → eqb byte 0xFE ≡ fe → starts_body true byte ≡ true → hear_in delimited byte wire ≡ step (inside (byte ∷ [])) wire nothing
-unfolding hear_in keep
+-- behind a delimiter and in an open body of which nothing is kept, it is kept alike
+FirstKept : State → ℕ → ℕ → Type 0
+FirstKept state byte wire = hear_in state byte wire ≡ step (inside (byte ∷ [])) wire nothing
+
+first_in : (byte wire : ℕ) (ff fe : Bool) → eqb byte 0xFF ≡ ff → eqb byte 0xFE ≡ fe → starts_body true byte ≡ true → FirstKept delimited byte wire × FirstKept (inside []) byte wire
+unfolding hear_in keep FirstKept
 first_in byte wire true fe e f starts =
     let no : false ≡ true = rw e at starts in
     let z : ◌≡◌ {A = ℕ} 0 1 = cc in absurd (omega arith)
 first_in byte wire false true e f starts =
     let no : false ≡ true = rw (e, f) at starts in
     let z : ◌≡◌ {A = ℕ} 0 1 = cc in absurd (omega arith)
-first_in byte wire false false e f starts = rw (e, f)
+first_in byte wire false false e f starts = (rw (e, f), rw e)
 
--- it is kept, and opens the body
-pub first_byte : (block : List ℕ) (start : ℕ) → start + 1 < 2 ^ 64 → starts_body (delimited_at block start) (get_or block start 0) ≡ true
-    → hear (start_at block start) (get_or block start 0) ≡ step (inside (get_or block start 0 ∷ [])) (start + 1) nothing
-unfolding hear tick
-first_byte block start fits starts =
+-- so a walk may begin there
+pub first_byte : (block : List ℕ) (start : ℕ) (lent : List ℕ) → start < 2 ^ 64 → starts_body (delimited_at block start) (get_or block start 0) ≡ true
+    → hear (listening (record { phase = Inside; wire = record { 0 = start }; kept = record { 0 = 0 } }) lent) (get_or block start 0) ≡ hear (start_at block start) (get_or block start 0)
+unfolding listening hear tick FirstKept
+first_byte block start lent fits starts =
     let byte = get_or block start 0 in
     let ff = behind_delimiter (delimited_at block start) byte starts in
-    let counted : (start % 2 ^ 64 + 1) % 2 ^ 64 ≡ start + 1 = omega arith in
-    rw (start_is block start, ff, counted) (first_in byte (start + 1) (eqb byte 0xFF) (eqb byte 0xFE) refl refl (rw ff at starts))
+    let counted : start % 2 ^ 64 ≡ start = omega arith in
+    let alike = first_in byte ((start + 1) % 2 ^ 64) (eqb byte 0xFF) (eqb byte 0xFE) refl refl (rw ff at starts) in
+    rw (start_is block start, ff, counted) (alike.1 ∙ sym alike.0)

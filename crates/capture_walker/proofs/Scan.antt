@@ -25,7 +25,7 @@ use Rattle.capture_walker.proofs.OneStep.{step_ends, step_hears}
 
 -- ---- a block counts from wherever it began
 
-abbrev pub one_more : Fed → Fed
+abbrev one_more : Fed → Fed
 one_more answer = record { reader = answer.reader; event = answer.event; used = suc answer.used }
 
 unless_more : (event : Option Event) (later stopped later' stopped' : Fed) → later' ≡ one_more later → stopped' ≡ one_more stopped
@@ -33,7 +33,7 @@ unless_more : (event : Option Event) (later stopped later' stopped' : Fed) → l
 unless_more None later stopped later' stopped' l s = l
 unless_more (Some event) later stopped later' stopped' l s = s
 
-pub counts_on : (used : ℕ) (reader : Reader) (block : List ℕ) → fed_from (suc used) reader block ≡ one_more (fed_from used reader block)
+counts_on : (used : ℕ) (reader : Reader) (block : List ℕ) → fed_from (suc used) reader block ≡ one_more (fed_from used reader block)
 unfolding fed_from
 counts_on used reader [] = refl
 counts_on used reader (byte ∷ block) =

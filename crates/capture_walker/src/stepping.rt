@@ -1,7 +1,7 @@
 // One step from a place of a block: the work, on a slice and a number. A walker's step is a thin cover over it.
 ghost use Rattle.capture_walker.specs.Walking.{StepsFrom};
 
-use crate::starting::{behind_first_byte, next_body, reach};
+use crate::starting::{body_open, next_body, reach};
 use line::Event;
 
 // A step's answer, and the place behind it. To go on from the place behind an event is to walk on, also if the block has grown since. Behind "end" a
@@ -23,13 +23,9 @@ pub fn step_from(block: &[u8], place: usize, body: &mut [u8; 255]) -> Stepped
             place: place.max(block.len()),
         };
     };
-    // The first byte is kept ahead of `listen`, which then begins as it goes on, with a body open: begun behind the delimiter, walking frames of ten
-    // bytes took 1.7 times as long.
-    let rest = reach(&block[start..]);
-    body[0] = block[start];
-    let went = behind_first_byte(start).listen(&rest[1..], body);
+    let went = body_open(start).listen(reach(&block[start..]), body);
     Stepped {
         next: went.event,
-        place: start + 1 + went.used,
+        place: start + went.used,
     }
 }

@@ -1,9 +1,9 @@
 -- `capture_walker::step_from` meets its contract: "end" at or past the block's end, and from any other place what the rest of the block gives.
--- Why: the rest is heard by `listen` from where the next body starts, and the step from there is the step from the place.
-use Rattle.std.proofs.Common.{◌∙◌, ◌-◌, length, take, drop, arith, sym, length-drop}
+-- Why: the rest is heard by `listen` from where the next body starts, as if it were open there, and the step from there is the step from the place.
+use Rattle.std.proofs.Common.{◌≡◌, ◌∙◌, ◌-◌, length, drop, arith, rules, sym, length-drop}
 use lib.Seq.{take_all}
-use Rattle.capture_walker.specs.Scanning.{longest_on_wire}
-use Rattle.capture_walker.proofs.FirstByte.{set_first, step_from_first}
+use Rattle.line.specs.declared.places.Phase.TheVariants.{Inside}
+use Rattle.capture_walker.proofs.FirstByte.{step_from_first}
 use Rattle.capture_walker.proofs.OneStep.{step_ends, steps_as}
 use Rattle.capture_walker.proofs.stepping.step_from.Goals as goal
 
@@ -18,9 +18,8 @@ returns c =
     let block = c.args.block.now in
     let lent = c.args.body.now in
     let found = c.in-Some.ensures in
-    let left = take_all (length block - c.in-Some.start) (drop c.in-Some.start block) (rw length-drop (omega arith)) in
-    let part = take longest_on_wire (drop c.in-Some.start block) in
-    let rest = take_all (length part - 1) (drop 1 part) (rw length-drop (omega arith)) in
-    let heard = rw (c.behind_first_byte.ensures, c.reach-rest.ensures, left, rest, set_first lent _ (omega arith)) at c.listen-went.ensures in
+    let rest = take_all (length block - c.in-Some.start) (drop c.in-Some.start block) (rw length-drop (omega arith)) in
+    let opened : c.body_open.result ≡ record { phase = Inside; wire = record { 0 = c.in-Some.start }; kept = record { 0 = 0 } } = search rules in
+    let heard = rw (opened, c.reach.ensures, rest) at c.listen-went.ensures in
     steps_as block c.args.place lent c.told-body
     (step_from_first block c.in-Some.start lent c.told-body found.within (omega arith) found.starts heard ∙ found.same lent c.told-body)
