@@ -1,7 +1,8 @@
--- Shown: a search finds the place that passes and above which none does, or none where none passes; two tests that agree give one answer.
+-- Shown: a search finds the place that passes and above which none does, or none where none passes: it ends at a place that passes, and goes on below
+-- one that does not; two tests that agree give one answer.
 -- Why: by induction over the number.
 use Rattle.std.specs.Prelude.{Some, None}
-use Prim.Native.Nat.{ℕ, zero, suc, ◌<◌}
+use Prim.Native.Nat.{ℕ, zero, suc, ◌-◌, ◌<◌}
 use mathlib.Core.Path.{◌≡◌, refl, subst}
 use mathlib.Core.Bool.{Bool, true, false}
 use mathlib.Core.Logic.{⊎_elim}
@@ -15,6 +16,17 @@ unfolding highest_below
 same_search zero test other same = refl
 same_search (suc below) test other same =
     rw (same below (omega arith), same_search below test other (λ place h. same place (omega (arith, h))))
+
+-- one place less
+pub search_ends : (below : ℕ) (test : ℕ → Bool) → 0 < below → test (below - 1) ≡ true → highest_below below test ≡ Some (record { 0 = below - 1 })
+unfolding highest_below
+search_ends zero test some is = absurd (omega arith)
+search_ends (suc place) test some is = let last : suc place - 1 ≡ place = omega arith in let there : test place ≡ true = rw last at is in rw (there, last)
+
+pub search_on : (below : ℕ) (test : ℕ → Bool) → 0 < below → test (below - 1) ≡ false → highest_below (below - 1) test ≡ highest_below below test
+unfolding highest_below
+search_on zero test some is = absurd (omega arith)
+search_on (suc place) test some is = let last : suc place - 1 ≡ place = omega arith in let there : test place ≡ false = rw last at is in rw (there, last)
 
 -- no place passes
 pub none_passes : (below : ℕ) (test : ℕ → Bool) → ((place : ℕ) → place < below → test place ≡ false) → highest_below below test ≡ None

@@ -8,7 +8,8 @@ use mathlib.Core.List.{List, [], ◌∷◌}
 use native.Mathlib.Omega.{arith}
 use lib.Dec.{eqb}
 use lib.ListN.{get_or}
-use Rattle.line.specs.declared.places.Phase.TheVariants.{Inside}
+use Rattle.line.specs.declared.places.Place.{Place}
+use Rattle.line.specs.declared.places.Phase.TheVariants.{Delimited, Inside}
 use Rattle.line.specs.Listener.{nothing, State, seeking, delimited, inside, Listener, step, keep, tick, hear_in, hear}
 use Rattle.line.specs.Readers.{listening, kept_of, place_of}
 use Rattle.capture_walker.specs.Walking.{state_behind, start_at}
@@ -52,9 +53,15 @@ rests_empty false = refl
 pub none_kept : (block : List ℕ) (place : ℕ) → kept_of (start_at block place).state ≡ []
 none_kept block place = rw (start_is block place) (rests_empty (delimited_at block place))
 
--- behind a delimiter: the state
+-- behind a delimiter: the state, and the place
 pub delimited_there : (block : List ℕ) (place : ℕ) → delimited_at block place ≡ true → (start_at block place).state ≡ delimited
 delimited_there block place ff = rw (start_is block place, ff)
+
+pub place_behind_ff : (block : List ℕ) (place : ℕ) → place < 2 ^ 64 → delimited_at block place ≡ true
+    → ◌≡◌ {A = Place} (record { phase = Delimited; wire = record { 0 = place }; kept = record { 0 = 0 } }) (place_of (start_at block place))
+place_behind_ff block place fits ff =
+    let counted : place % 2 ^ 64 ≡ place = omega arith in
+    rw (start_is block place, ff, counted)
 
 -- ---- one byte at rest
 
